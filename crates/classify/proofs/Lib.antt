@@ -1,0 +1,4 @@
+pub mod Arms
+pub mod Stages
+pub mod Walk
+pub mod Bits

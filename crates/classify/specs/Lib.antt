@@ -1,0 +1,3 @@
+pub mod Lead
+pub mod Stage
+pub mod Front

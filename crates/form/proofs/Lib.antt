@@ -1,0 +1,16 @@
+pub mod Tests
+pub mod Rows
+pub mod Scan
+pub mod Part
+pub mod Bad
+pub mod Stable
+pub mod After
+pub mod Codes
+pub mod Pattern
+pub mod Runs
+pub mod Items
+pub mod Starts
+pub mod Round
+pub mod Demand
+pub mod Utf8
+pub mod Between
