@@ -2,3 +2,4 @@ pub mod Arms
 pub mod Stages
 pub mod Walk
 pub mod Bits
+pub mod Told

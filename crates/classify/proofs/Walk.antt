@@ -13,19 +13,19 @@ use Rattle.form.specs.Table.{row, Codes}
 use Rattle.form.specs.Scan.{Found, well, part, bad, scan, after}
 use Rattle.form.specs.Pattern.{bits}
 use Rattle.form.proofs.Rows.{both}
-use Rattle.form.proofs.Tests.{Table, some?, open?}
+use Rattle.form.proofs.Tests.{Regular, some?, open?}
 use Rattle.form.proofs.Scan.{scan-well}
 use Rattle.form.proofs.After.{grow, resume, ranges, uncoded, grow-uncoded, scan-after, resume-alike, scan-nil}
-use Rattle.form.proofs.Utf8.{plain-table, surro-table, plain-bits, surro-bits}
+use Rattle.form.proofs.Utf8.{plain-regular, surro-regular, plain-bits, surro-bits}
 use Rattle.classify.specs.declared.Form.{Form}
 use Rattle.classify.specs.declared.Form.the-variants.{Plain, Surro}
 use Rattle.classify.specs.Lead.{rowsOf}
 use Rattle.classify.specs.Stage.{stages, left, stageOf}
 use Rattle.classify.proofs.Stages.{Closed, first-closed, next-closed, live}
 
-pub form-table : (f : Form) → Table (rowsOf f)
-form-table Plain = plain-table
-form-table Surro = surro-table
+pub form-regular : (f : Form) → Regular (rowsOf f)
+form-regular Plain = plain-regular
+form-regular Surro = surro-regular
 
 pub form-bits : (f : Form) (w : List ℕ) (c : ℕ) → Codes (rowsOf f) w c → c ≡ bits w
 form-bits Plain = plain-bits
@@ -63,12 +63,12 @@ walk-first f (b ∷ s) stage l h e =
       some = omega arith;
       is-stage = c .is-stage;
       finds =
-          ap uncoded (scan-after (rowsOf f) b s (form-table f .is-open))
+          ap uncoded (scan-after (rowsOf f) b s (form-regular f .is-open))
           ∙ sym (resume-alike (left (stageOf (after b (rowsOf f)))) (after b (rowsOf f)) s (c .is-left));
     })
 
 pub walk-none : (f : Form) (s : List ℕ) → length s ≡ 0 → scan (rowsOf f) s ≡ part
-walk-none f [] e = scan-nil (rowsOf f) (form-table f .is-some) (form-table f .is-open)
+walk-none f [] e = scan-nil (rowsOf f) (form-regular f .is-some) (form-regular f .is-open)
 walk-none f (b ∷ s) e = absurd (omega arith)
 
 resume-live : (F : Table.Form) (b : ℕ) (s : List ℕ) → T (some? F) → T (open? F) → resume F (b ∷ s) ≡ grow (resume (after b F) s)

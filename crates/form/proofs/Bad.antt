@@ -12,7 +12,7 @@ use borrow.Author.Tests.{ltb-true, ltb-false}
 use Rattle.form.specs.Table.{Range, _to_, Row, row, Form, Fits, index, Codes, WellFormed, Begins}
 use Rattle.form.specs.Scan.{in?, Fit, whole, short, stops, go-on, fit, Found, well, part, bad, join, scan}
 use Rattle.form.proofs.Rows.{both, true-in, in-true, some-fits}
-use Rattle.form.proofs.Tests.{proper, proper-rows, some?, Table}
+use Rattle.form.proofs.Tests.{proper, proper-rows, some?, Regular}
 use Rattle.form.proofs.Scan.{scan-well, well-scan}
 use Rattle.form.proofs.Part.{scan-part}
 
@@ -105,7 +105,7 @@ bad-begins (row k rs ∷ r ∷ F) s n o p e =
 abbrev pub StartsNone : Form → List ℕ → Type 0
 StartsNone F s = (w t : List ℕ) → s ≡ w ++ t → WellFormed F w → ⊥
 
-pub bad-iff : (F : Form) → Table F → (s : List ℕ) (n : ℕ) → (scan F s ≡ bad n) ↔ (StartsNone F s × Longest (Begins F) s n)
+pub bad-iff : (F : Form) → Regular F → (s : List ℕ) (n : ℕ) → (scan F s ≡ bad n) ↔ (StartsNone F s × Longest (Begins F) s n)
 bad-iff F S s n = (λ e. (none e, found e), λ h. go h (scan F s) refl)
   where
     none : scan F s ≡ bad n → StartsNone F s

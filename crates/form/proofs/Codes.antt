@@ -7,7 +7,7 @@ use Prim.Native.Nat.{ℕ, suc, _+_, _-_, _≤_, _<_}
 use native.Mathlib.Omega.{arith}
 use lib.Dec.{T, leb, ltb, eqb, leb→le, eqb→eq}
 use borrow.Author.Tests.{le-leb, lt-ltb, le-ltb, ltb-true, ltb-false, eqb-true, eqb-false}
-use Rattle.form.specs.Table.{Range, _to_, Row, row, Form, In, Fits, size, index, Codes}
+use Rattle.form.specs.Table.{Range, _to_, Row, row, Form, In, InAny, Fits, size, index, Codes}
 use Rattle.form.specs.Text.{digits, sequence}
 use Rattle.form.proofs.Rows.{both, index-lt, digits-index, digits-fits, index-digits}
 use Rattle.form.proofs.Tests.{ascending, tiles}
@@ -40,10 +40,6 @@ codes-sequence (row k rs ∷ F) G p w c t h =
         rw (has-true k (size rs) c (omega arith) (omega arith), e) (digits-index rs w (u .0))
 
 -- ---- each code of the ranges that the rows tile has one
-
-abbrev pub InAny : List Range → ℕ → Type 0
-InAny [] c = ⊥
-InAny (r ∷ cs) c = In r c ⊎ InAny cs c
 
 row-codes : (F : Form) (k : ℕ) (rs : List Range) (c : ℕ) → k ≤ c → c < k + size rs → Codes (row k rs ∷ F) (digits rs (c - k)) c
 row-codes F k rs c h g = let i : c - k < size rs = omega arith in inl (digits-fits rs (c - k) i, omega (arith, index-digits rs (c - k) i))

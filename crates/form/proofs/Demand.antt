@@ -5,7 +5,7 @@ use mathlib.Core.List.{List, [], _∷_, _++_}
 use Prim.Native.Nat.{ℕ, _+_, _-_, _≤_, _<_}
 use native.Mathlib.Omega.{arith}
 use lib.Dec.{T, leb, ltb, leb→le, ltb→lt}
-use Rattle.form.specs.Table.{Range, _to_, Row, row, Form, surrogates, Fits, size, Escape}
+use Rattle.form.specs.Table.{Range, _to_, Row, row, Form, surrogates, Fits, size, escapes, Escape}
 use Rattle.form.specs.Scan.{in?}
 use Rattle.form.specs.Text.{digits, sequence, bytes, read, write, Bytes, Clean, Demand3}
 use Rattle.form.proofs.Tests.{proper, proper-rows, Sound}
@@ -48,10 +48,10 @@ proper-surrogates (row k rs ∷ F) p = let (q, r) = both (proper rs) (proper-row
     go false u v = u
 
 code-bytes : (F : Form) (c : ℕ) → T (proper-rows F) → Bytes (bytes F c)
-code-bytes F c p = go (in? (0xDC80 to 0xDCFF) c) refl
+code-bytes F c p = go (in? escapes c) refl
   where
-    go : (t : Bool) → in? (0xDC80 to 0xDCFF) c ≡ t → Bytes (cond t ((c - 0xDC00) ∷ []) (sequence (F ++ (surrogates ∷ [])) c))
-    go true e = let h : Escape c = in-true (0xDC80 to 0xDCFF) c e in (omega arith, tt)
+    go : (t : Bool) → in? escapes c ≡ t → Bytes (cond t ((c - 0xDC00) ∷ []) (sequence (F ++ (surrogates ∷ [])) c))
+    go true e = let h : Escape c = in-true escapes c e in (omega arith, tt)
     go false e = sequence-bytes (F ++ (surrogates ∷ [])) c (proper-surrogates F p)
 
 pub write-bytes : (F : Form) (l : List ℕ) → T (proper-rows F) → Bytes (write F l)
@@ -72,4 +72,4 @@ demand3 F runs S =
     }
   where
     back : (l : List ℕ) → write F (read F (write F l)) ≡ write F l
-    back l = write-read F runs S (write F l) (write-bytes F l (S .table .is-proper))
+    back l = write-read F runs S (write F l) (write-bytes F l (S .regular .is-proper))

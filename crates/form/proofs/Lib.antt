@@ -12,5 +12,6 @@ pub mod Items
 pub mod Starts
 pub mod Round
 pub mod Demand
+pub mod Laws
 pub mod Utf8
 pub mod Between

@@ -10,7 +10,7 @@ use lib.ListN.{length, take, drop, take-append-drop, length-append}
 use Rattle.form.specs.Table.{Range, _to_, Row, row, Form, Fits, index, Codes, WellFormed, Partial}
 use Rattle.form.specs.Scan.{in?, Fit, whole, short, stops, go-on, fit, Found, well, part, bad, join, scan}
 use Rattle.form.proofs.Rows.{both, true-in, in-true, fit-whole, fits-length, some-fits}
-use Rattle.form.proofs.Tests.{clear, distinct, proper, proper-rows, at-most, Table}
+use Rattle.form.proofs.Tests.{clear, distinct, proper, proper-rows, at-most, Regular}
 use Rattle.form.proofs.Scan.{clear-absurd, scan-well}
 
 -- ---- one row
@@ -86,7 +86,7 @@ part-scan (row k rs ∷ F) s t c d l h = ⊎-elim here (λ u. there u (part-scan
     there : Codes F (s ++ t) c → scan F s ≡ part → join (fit rs s) (k + index rs s) (length rs) (scan F s) ≡ part
     there u ih = rw ih (join-past (fit rs s) (k + index rs s) (length rs) (other u))
 
-pub part-iff : (F : Form) → Table F → (s : List ℕ) → 0 < length s → (scan F s ≡ part) ↔ Partial F s
+pub part-iff : (F : Form) → Regular F → (s : List ℕ) → 0 < length s → (scan F s ≡ part) ↔ Partial F s
 part-iff F S s l = (λ e. (l, scan-part F s (S .is-proper) e), λ p. part-scan F s (p .1 .0) (p .1 .2 .0) (S .is-distinct) (p .1 .1) (p .1 .2 .1))
 
 -- ---- a partial sequence is shorter than the longest row

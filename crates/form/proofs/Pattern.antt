@@ -63,14 +63,11 @@ pub shape-bits : (w : List ℕ) (c : ℕ) → Shape w c → c ≡ bits w
 shape-bits [] c h = absurd h
 shape-bits (x ∷ []) c h = omega arith
 shape-bits (x ∷ y ∷ []) c (_, _, p, q, e) =
-    let m : x % 0x20 ≡ x - 0xC0 = omega arith in
-    rw (m, tail-bits y q) e
+    rw (tail-bits y q) (omega arith)
 shape-bits (x ∷ y ∷ z ∷ []) c (_, _, p, q, r, e) =
-    let m : x % 0x10 ≡ x - 0xE0 = omega arith in
-    rw (m, tail-bits y q, tail-bits z r) e
+    rw (tail-bits y q, tail-bits z r) (omega arith)
 shape-bits (x ∷ y ∷ z ∷ v ∷ []) c (_, _, p, q, r, s, e) =
-    let m : x % 0x8 ≡ x - 0xF0 = omega arith in
-    rw (m, tail-bits y q, tail-bits z r, tail-bits v s) e
+    rw (tail-bits y q, tail-bits z r, tail-bits v s) (omega arith)
 shape-bits (x ∷ y ∷ z ∷ v ∷ u ∷ w) c h = absurd h
 
 pub shape-pattern : (w : List ℕ) (c : ℕ) → Shape w c → w ≡ pattern c

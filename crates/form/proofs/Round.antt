@@ -1,21 +1,20 @@
 -- Over any sound form: writing undoes reading, what is read is clean, and reading undoes writing on clean lists. Assumes nothing.
 use mathlib.Core.Path.{_≡_, refl, sym, ap, _∙_, subst}
 use mathlib.Core.Logic.{_⊎_, inl, inr, ⊎-elim}
-use mathlib.Core.Bool.{false, _&&_}
+use mathlib.Core.Bool.{Bool, true, false, _&&_}
 use mathlib.Core.List.{List, [], _∷_, _++_, map, append-assoc, nil≢cons, head-eq-of-cons-eq, tail-eq-of-cons-eq, List·Memᴰ}
 use Prim.Native.Nat.{ℕ, zero, suc, _+_, _-_, _≤_, _<_}
 use native.Mathlib.Omega.{arith}
 use lib.Dec.{T}
 use lib.ListN.{length, take, drop, take-append-drop}
 use lib.Seq.{drop-nil, drop-append-seam}
-use borrow.Author.Tests.{le-leb, lt-leb}
-use Rattle.form.specs.Table.{Range, _to_, Row, row, Form, surrogates, Fits, Codes, WellFormed, Scalar, Escape}
+use Rattle.form.specs.Table.{Range, Row, row, Form, surrogates, Fits, Codes, WellFormed, scalars, Scalar, escapes, Escape}
 use Rattle.form.specs.Scan.{in?, Found, well, part, bad, scan}
 use Rattle.form.specs.Text.{Item, coded, stray, escape, code, more, item, items, read, bytes, write, All, Bytes, unescape, Clean}
-use Rattle.form.proofs.Tests.{clear, inner, uncut, scalar-ranges, Sound}
-use Rattle.form.proofs.Rows.{both, true-in}
+use Rattle.form.proofs.Tests.{clear, inner, uncut, Sound}
+use Rattle.form.proofs.Rows.{both, in-true, true-in}
 use Rattle.form.proofs.Scan.{clear-absurd, scan-well, well-scan, codes-nil}
-use Rattle.form.proofs.Codes.{InAny, codes-sequence, codes-iff, sequence-codes}
+use Rattle.form.proofs.Codes.{codes-sequence, codes-iff, sequence-codes}
 use Rattle.form.proofs.Starts.{NoneAt, high}
 use Rattle.form.proofs.Items.{items-skip}
 use Rattle.form.proofs.Runs.{run-length}
@@ -26,22 +25,16 @@ abbrev Good : ℕ → Type 0
 Good c = Scalar c ⊎ Escape c
 
 scalar-escape : (c : ℕ) → Scalar c → Escape c → ⊥
-scalar-escape c s x = ⊎-elim (λ a. omega arith) (λ a. omega arith) s
+scalar-escape c (inl a) x = omega arith
+scalar-escape c (inr (inl a)) x = omega arith
+scalar-escape c (inr (inr a)) x = a
 
-pub any-scalar : (c : ℕ) → InAny scalar-ranges c → Scalar c
-any-scalar c (inl a) = inl a
-any-scalar c (inr (inl a)) = inr a
-any-scalar c (inr (inr a)) = absurd a
-
-pub scalar-any : (c : ℕ) → Scalar c → InAny scalar-ranges c
-scalar-any c (inl a) = inl a
-scalar-any c (inr a) = inr (inl a)
-
-escape-false : (c : ℕ) → Scalar c → in? (0xDC80 to 0xDCFF) c ≡ false
-escape-false c h =
-    ⊎-elim (λ a. let g : c < 0xDC80 = omega arith in simp (lt-leb 0xDC80 c g))
-    (λ a. let g : 0xDC80 ≤ c = omega arith in let l : 0xDCFF < c = omega arith in simp (le-leb 0xDC80 c g, lt-leb c 0xDCFF l))
-    h
+escape-false : (c : ℕ) → Scalar c → in? escapes c ≡ false
+escape-false c s = go (in? escapes c) refl
+  where
+    go : (t : Bool) → in? escapes c ≡ t → t ≡ false
+    go true e = absurd (scalar-escape c s (in-true escapes c e))
+    go false e = refl
 
 -- ---- lists
 
@@ -50,7 +43,7 @@ write-append F [] m = refl
 write-append F (c ∷ l) m = ap (λ (x : List ℕ). bytes F c ++ x) (write-append F l m) ∙ sym (append-assoc (bytes F c) (write F l) (write F m))
 
 bytes-escape : (F : Form) (c : ℕ) → Escape c → bytes F c ≡ unescape c ∷ []
-bytes-escape F c x = rw (true-in (0xDC80 to 0xDCFF) c x)
+bytes-escape F c x = rw (true-in escapes c x)
 
 write-escapes : (F : Form) (l : List ℕ) → All Escape l → write F l ≡ map unescape l
 write-escapes F [] h = refl
@@ -77,16 +70,16 @@ codes-row F (row k (r ∷ rs) ∷ G) b w c u h =
 
 module _ (F : Form) (runs : List ℕ) (S : Sound F runs) where
   codes-scalar : (w : List ℕ) (c : ℕ) → Codes F w c → Scalar c
-  codes-scalar w c h = any-scalar c (codes-iff F scalar-ranges c (S .is-scalars) .0 (w, h))
+  codes-scalar w c h = codes-iff F scalars c (S .is-scalars) .0 (w, h)
 
   no-codes : (c : ℕ) → Codes F [] c → ⊥
-  no-codes c h = codes-nil F c (S .table .is-open) h
+  no-codes c h = codes-nil F c (S .regular .is-open) h
 
   bytes-codes : (w : List ℕ) (c : ℕ) → Codes F w c → bytes F c ≡ w
   bytes-codes w c h = rw (escape-false c (codes-scalar w c h)) (codes-sequence F (surrogates ∷ []) 0 w c (S .is-ascending) h)
 
   bytes-scalar : (c : ℕ) → Scalar c → Codes F (bytes F c) c
-  bytes-scalar c s = rw (escape-false c s) (sequence-codes F (surrogates ∷ []) scalar-ranges c (S .is-ascending) (S .is-scalars) (scalar-any c s))
+  bytes-scalar c s = rw (escape-false c s) (sequence-codes F (surrogates ∷ []) scalars c (S .is-ascending) (S .is-scalars) s)
 
   -- ---- one item
 
@@ -139,7 +132,7 @@ module _ (F : Form) (runs : List ℕ) (S : Sound F runs) where
       let l : b ∷ s ≡ w ++ write F z =
       sym (write-read (b ∷ s) h) ∙ ap (write F) e ∙ write-append F (d ∷ m) z ∙ ap (λ (y : List ℕ). y ++ write F z) (write-escapes F (d ∷ m) x)
       in
-      let f : scan F (b ∷ s) ≡ well (wf .0) (length w) = ap (scan F) l ∙ well-scan F w (write F z) (wf .0) (S .table .is-distinct) (wf .1) in
+      let f : scan F (b ∷ s) ≡ well (wf .0) (length w) = ap (scan F) l ∙ well-scan F w (write F z) (wf .0) (S .regular .is-distinct) (wf .1) in
       let g : wf .0 ≡ d = ap (λ (y : Found). code (item y b s)) (sym f) ∙ head-eq-of-cons-eq e in
       scalar-escape d (subst Scalar g (codes-scalar w (wf .0) (wf .1))) (x .0)
 
@@ -194,7 +187,7 @@ module _ (F : Form) (runs : List ℕ) (S : Sound F runs) where
   read-scalar : (c : ℕ) (w t : List ℕ) → Codes F w c → read F (w ++ t) ≡ c ∷ read F t
   read-scalar c [] t h = absurd (no-codes c h)
   read-scalar c (b ∷ w) t h =
-      rw (well-scan F (b ∷ w) t c (S .table .is-distinct) h)
+      rw (well-scan F (b ∷ w) t c (S .regular .is-distinct) h)
       (ap (λ (y : List Item). c ∷ map code y) (items-skip F (length w) (w ++ t) ∙ ap (items F 0) (drop-append-seam w t)))
 
   read-escape : (c : ℕ) (t : List ℕ) → Escape c → NoneAt F (unescape c ∷ t) → read F (unescape c ∷ t) ≡ c ∷ read F t

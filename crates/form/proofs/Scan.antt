@@ -11,7 +11,7 @@ use lib.Seq.{length-take-le}
 use Rattle.form.specs.Table.{Range, _to_, Row, row, Form, In, Fits, index, Codes}
 use Rattle.form.specs.Scan.{Fit, whole, short, stops, fit, Found, well, part, bad, join, scan}
 use Rattle.form.proofs.Rows.{both, either, fit-whole, whole-fit, fits-length, index-take, index-append}
-use Rattle.form.proofs.Tests.{apart, clash, clear, distinct, open?, Table}
+use Rattle.form.proofs.Tests.{apart, clash, clear, distinct, open?, Regular}
 
 -- ---- rows that clash
 
@@ -80,7 +80,7 @@ well-scan (row k rs ∷ F) w t c d h = ⊎-elim here (λ u. there u (well-scan F
     there u ih = rw ih (join-past (fit rs (w ++ t)) (k + index rs (w ++ t)) (length rs) c (length w) (other u))
 
 -- a well-formed sequence with the code c, of n bytes, stands at the front of s
-pub well-iff : (F : Form) → Table F → (s : List ℕ) (c n : ℕ) → (scan F s ≡ well c n) ↔ (Codes F (take n s) c × (n ≤ length s))
+pub well-iff : (F : Form) → Regular F → (s : List ℕ) (c n : ℕ) → (scan F s ≡ well c n) ↔ (Codes F (take n s) c × (n ≤ length s))
 well-iff F S s c n = (
   scan-well F s c n,
   λ h. ap (scan F) (sym (take-append-drop n s)) ∙ well-scan F (take n s) (drop n s) c (S .is-distinct) (h .0) ∙ ap (well c) (length-take-le n s (h .1)),

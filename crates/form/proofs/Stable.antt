@@ -9,7 +9,7 @@ use lib.ListN.{length, take, length-append}
 use lib.Seq.{take-append-le}
 use Rattle.form.specs.Table.{Range, Row, row, Form, index}
 use Rattle.form.specs.Scan.{in?, stops, fit, well, bad, scan}
-use Rattle.form.proofs.Tests.{Table}
+use Rattle.form.proofs.Tests.{Regular}
 use Rattle.form.proofs.Scan.{well-iff}
 use Rattle.form.proofs.Bad.{go-on-stops, join-bad}
 
@@ -28,7 +28,7 @@ bad-stays (row k rs ∷ F) s t n e =
     let (i, j, f, x, q) = join-bad (fit rs s) (k + index rs s) (length rs) (scan F s) n e in
     rw (fit-stays rs s t i f, bad-stays F s t j x) (ap bad (sym q))
 
-pub well-stays : (F : Form) → Table F → (s t : List ℕ) (c n : ℕ) → scan F s ≡ well c n → scan F (s ++ t) ≡ well c n
+pub well-stays : (F : Form) → Regular F → (s t : List ℕ) (c n : ℕ) → scan F s ≡ well c n → scan F (s ++ t) ≡ well c n
 well-stays F S s t c n e =
     let (h, l) = well-iff F S s c n .0 e in
     well-iff F S (s ++ t) c n .1 (rw (take-append-le n s t l) h, omega (arith, length-append s t))

@@ -12,7 +12,7 @@ use borrow.Author.Tests.{ltb-true, ltb-false}
 use Rattle.form.specs.Table.{Range, _to_, Row, row, Form, In, Fits, index, Codes, WellFormed, Begins}
 use Rattle.form.specs.Scan.{Found, well, part, bad, scan}
 use Rattle.form.specs.Text.{Item, coded, stray, escape, code, item, items, read, All}
-use Rattle.form.proofs.Tests.{apart, open?, starts-none, all-start-none, lead-only, low, Table}
+use Rattle.form.proofs.Tests.{apart, open?, starts-none, all-start-none, lead-only, low, Regular}
 use Rattle.form.proofs.Rows.{both, true-in}
 use Rattle.form.proofs.Scan.{apart-absurd, scan-well, codes-nil}
 use Rattle.form.proofs.Part.{scan-part}
@@ -70,7 +70,7 @@ later-begins-none F t a u b w v (x, (c, g)) (y, h) = codes-starts F F a u b (w +
 abbrev Idle : Form → ℕ → Type 0
 Idle F b = (v : List ℕ) → Begins F (b ∷ v) → ⊥
 
-idle-scan : (F : Form) → Table F → (b : ℕ) (s : List ℕ) → Idle F b → scan F (b ∷ s) ≡ bad 0
+idle-scan : (F : Form) → Regular F → (b : ℕ) (s : List ℕ) → Idle F b → scan F (b ∷ s) ≡ bad 0
 idle-scan F S b s h = go (scan F (b ∷ s)) refl
   where
     go : (x : Found) → scan F (b ∷ s) ≡ x → scan F (b ∷ s) ≡ bad 0
@@ -83,7 +83,7 @@ idle-scan F S b s h = go (scan F (b ∷ s)) refl
 abbrev alone : ℕ → Item
 alone b = stray b 1
 
-idle-items : (F : Form) → Table F → (u t : List ℕ) → All (Idle F) u → items F 0 (u ++ t) ≡ map alone u ++ items F 0 t
+idle-items : (F : Form) → Regular F → (u t : List ℕ) → All (Idle F) u → items F 0 (u ++ t) ≡ map alone u ++ items F 0 t
 idle-items F S [] t h = refl
 idle-items F S (b ∷ u) t h = rw (idle-scan F S b (u ++ t) (h .0)) (ap (λ (l : List Item). alone b ∷ l) (idle-items F S u t (h .1)))
 
@@ -93,7 +93,7 @@ idle-later F t a u (b ∷ w) g =
     (λ v h. later-begins-none F t a u b w v g h, idle-later F t a (u ++ (b ∷ [])) w (rw (append-assoc u (b ∷ []) w) g))
 
 -- a subpart of suc m bytes starts at b: the items of its later bytes
-pub items-together : (F : Form) → Table F → T (lead-only F F) → (b : ℕ) (s : List ℕ) (m : ℕ) → item (scan F (b ∷ s)) b s ≡ stray b (suc m)
+pub items-together : (F : Form) → Regular F → T (lead-only F F) → (b : ℕ) (s : List ℕ) (m : ℕ) → item (scan F (b ∷ s)) b s ≡ stray b (suc m)
     → items F 0 (b ∷ s) ≡ stray b (suc m) ∷ (map alone (take m s) ++ items F 0 (drop m s))
 items-together F S t b s m e = rw e (ap (λ (l : List Item). stray b (suc m) ∷ l) (go (scan F (b ∷ s)) refl))
   where
@@ -114,7 +114,7 @@ items-together F S t b s m e = rw e (ap (λ (l : List Item). stray b (suc m) ∷
         later n (omega arith) (bad-iff F S (b ∷ s) (suc n) .0 x .1 .begun)
 
 -- document 01's remark on source document 004: to escape a maximal subpart together or byte by byte gives the same codes
-pub read-together : (F : Form) → Table F → T (lead-only F F) → (b : ℕ) (s : List ℕ) (m : ℕ) → item (scan F (b ∷ s)) b s ≡ stray b (suc m)
+pub read-together : (F : Form) → Regular F → T (lead-only F F) → (b : ℕ) (s : List ℕ) (m : ℕ) → item (scan F (b ∷ s)) b s ≡ stray b (suc m)
     → read F (b ∷ s) ≡ map escape (take (suc m) (b ∷ s)) ++ read F (drop (suc m) (b ∷ s))
 read-together F S t b s m e =
     ap (map code) (items-together F S t b s m e)

@@ -4,7 +4,7 @@ use mathlib.Core.List.{List, [], _∷_}
 use Prim.Native.Nat.{ℕ, suc, _+_}
 use lib.Dec.{T, leb, ltb, eqb}
 use lib.ListN.{length}
-use Rattle.form.specs.Table.{Range, _to_, Row, row, Form, size}
+use Rattle.form.specs.Table.{Range, _to_, Row, row, Form, size, scalars}
 
 -- no number is in both ranges
 abbrev pub apart : Range → Range → Bool
@@ -46,7 +46,7 @@ some? [] = false
 some? (r ∷ F) = true
 
 -- what the laws of `scan` ask for
-pub record Table (F : Form) : Type 0 where
+pub record Regular (F : Form) : Type 0 where
   pub is-some : T (some? F)
   pub is-open : T (open? F)
   pub is-proper : T (proper-rows F)
@@ -118,14 +118,11 @@ abbrev pub at-most : ℕ → Form → Bool
 at-most n [] = true
 at-most n (row k rs ∷ F) = leb (length rs) n && at-most n F
 
-abbrev pub scalar-ranges : List Range
-scalar-ranges = 0x0 to 0xD7FF ∷ 0xE000 to 0x10FFFF ∷ []
-
 -- what demand 3 asks for, with the lengths of the runs of escapes that it forbids
 pub record Sound (F : Form) (runs : List ℕ) : Type 0 where
-  pub table : Table F
+  pub regular : Regular F
   pub is-uncut : T (uncut F F)
   pub is-ascending : T (ascending 0 F)
-  pub is-scalars : T (tiles scalar-ranges F)
+  pub is-scalars : T (tiles scalars F)
   pub is-low : T (low F)
   pub is-long : T (longs runs F)

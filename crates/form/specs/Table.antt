@@ -86,10 +86,20 @@ Begins F s = (t : List ℕ) × WellFormed F (s ++ t)
 abbrev pub Partial : Form → List ℕ → Type 0
 Partial F s = (0 < length s) × ((t : List ℕ) × (0 < length t) × WellFormed F (s ++ t))
 
--- document 01's scalar value (the Unicode Standard, D76)
-abbrev pub Scalar : ℕ → Type 0
-Scalar c = In (0x0 to 0xD7FF) c ⊎ In (0xE000 to 0x10FFFF) c
+abbrev pub InAny : List Range → ℕ → Type 0
+InAny [] n = ⊥
+InAny (r ∷ rs) n = In r n ⊎ InAny rs n
 
--- the codes that escape a byte 80..FF
+-- document 01's scalar values (the Unicode Standard, D76)
+abbrev pub scalars : List Range
+scalars = 0x0 to 0xD7FF ∷ 0xE000 to 0x10FFFF ∷ []
+
+abbrev pub Scalar : ℕ → Type 0
+Scalar c = InAny scalars c
+
+-- the escapes of the bytes 80..FF
+abbrev pub escapes : Range
+escapes = 0xDC80 to 0xDCFF
+
 abbrev pub Escape : ℕ → Type 0
-Escape c = In (0xDC80 to 0xDCFF) c
+Escape c = In escapes c

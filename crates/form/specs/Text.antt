@@ -6,7 +6,7 @@ use mathlib.Core.List.{List, [], _∷_, _++_, map, List·Memᴰ}
 use Prim.Native.Nat.{ℕ, zero, suc, _+_, _-_, _/_, _%_, _≤_, _<_, max}
 use lib.Dec.{ltb, leb}
 use lib.ListN.{length}
-use Rattle.form.specs.Table.{Range, _to_, Row, row, Form, surrogates, size, WellFormed, Scalar, Escape}
+use Rattle.form.specs.Table.{Range, _to_, Row, row, Form, surrogates, size, escapes, WellFormed, Scalar, Escape}
 use Rattle.form.specs.Scan.{in?, Found, well, part, bad, scan}
 
 -- ---- reading ("The whole-buffer reader", LAST alone)
@@ -68,7 +68,7 @@ sequence (row k rs ∷ F) c = cond (leb k c && ltb c (k + size rs)) (digits rs (
 
 -- an escape is one byte, another surrogate three, and a scalar value its well-formed sequence
 abbrev pub bytes : Form → ℕ → List ℕ
-bytes F c = cond (in? (0xDC80 to 0xDCFF) c) ((c - 0xDC00) ∷ []) (sequence (F ++ (surrogates ∷ [])) c)
+bytes F c = cond (in? escapes c) ((c - 0xDC00) ∷ []) (sequence (F ++ (surrogates ∷ [])) c)
 
 abbrev pub write : Form → List ℕ → List ℕ
 write F [] = []
