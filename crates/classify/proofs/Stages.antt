@@ -1,5 +1,5 @@
 -- The stages are closed: what a byte leaves of a form or of a stage is a stage. Assumes nothing.
-use mathlib.Core.Path.{_≡_, refl, sym, ap, _∙_}
+use mathlib.Core.Path.{_≡_, refl}
 use mathlib.Core.Bool.{Bool, true, false, _&&_, cond}
 use mathlib.Core.List.{List, [], _∷_, map}
 use Prim.Native.Nat.{ℕ, zero, suc, _+_, _-_, _*_, _≤_, _<_}
@@ -7,7 +7,7 @@ use native.Mathlib.Omega.{arith}
 use lib.Dec.{T, eqb, ltb, eqb→eq, ltb→lt, lit<}
 use lib.ListN.{List·getD-eq-default}
 use Rattle.form.specs.Table as Table
-use Rattle.form.specs.Table.{Range, _to_, Row, row, tail, size, plain, surro}
+use Rattle.form.specs.Table.{Range, _to_, row, tail, size, plain, surro}
 use Rattle.form.specs.Scan.{in?, after}
 use Rattle.form.proofs.Rows.{both}
 use Rattle.form.proofs.Tests.{some?, open?}

@@ -1,6 +1,5 @@
 -- The number and the values settle the answer: no two answers tell the same. Assumes nothing.
 use mathlib.Core.Path.{_≡_, ap, ap₂}
-use Prim.Native.Nat.{ℕ}
 use native.Mathlib.Omega.{arith}
 use Rattle.classify.specs.declared.Front.{Front}
 use Rattle.classify.specs.declared.Front.the-variants.{Well, Partial, Bad}

@@ -1,7 +1,6 @@
 -- A walk over the bytes of a sequence, stage by stage, finds what `scan` finds. Assumes nothing.
-use mathlib.Core.Path.{_≡_, refl, sym, ap, _∙_, subst}
-use mathlib.Core.Bool.{_&&_}
-use mathlib.Core.List.{List, [], _∷_, map}
+use mathlib.Core.Path.{_≡_, refl, sym, ap, _∙_}
+use mathlib.Core.List.{List, [], _∷_}
 use Prim.Native.Nat.{ℕ, zero, suc, _+_, _-_, _≤_, _<_}
 use native.Mathlib.Numerals.{add-one}
 use native.Mathlib.Omega.{arith}
@@ -9,19 +8,19 @@ use lib.Dec.{T}
 use lib.ListN.{length, take, drop, getD, drop-of-length-le}
 use lib.Seq.{drop-cons}
 use Rattle.form.specs.Table as Table
-use Rattle.form.specs.Table.{row, Codes}
+use Rattle.form.specs.Table.{Codes}
 use Rattle.form.specs.Scan.{Found, well, part, bad, scan, after}
 use Rattle.form.specs.Pattern.{bits}
 use Rattle.form.proofs.Rows.{both}
 use Rattle.form.proofs.Tests.{Regular, some?, open?}
 use Rattle.form.proofs.Scan.{scan-well}
-use Rattle.form.proofs.After.{grow, resume, ranges, uncoded, grow-uncoded, scan-after, resume-alike, scan-nil}
+use Rattle.form.proofs.After.{grow, resume, uncoded, grow-uncoded, scan-after, resume-alike, scan-nil}
 use Rattle.form.proofs.Utf8.{plain-regular, surro-regular, plain-bits, surro-bits}
 use Rattle.classify.specs.declared.Form.{Form}
 use Rattle.classify.specs.declared.Form.the-variants.{Plain, Surro}
 use Rattle.classify.specs.Lead.{rowsOf}
 use Rattle.classify.specs.Stage.{stages, left, stageOf}
-use Rattle.classify.proofs.Stages.{Closed, first-closed, next-closed, live}
+use Rattle.classify.proofs.Stages.{first-closed, next-closed, live}
 
 pub form-regular : (f : Form) → Regular (rowsOf f)
 form-regular Plain = plain-regular

@@ -1,7 +1,5 @@
 -- What stands at the front of a slice, as document 01's number and values. Assumes nothing.
-use mathlib.Core.List.{List}
 use Prim.Native.Nat.{ℕ, max}
-use lib.ListN.{length}
 use Rattle.form.specs.Scan.{Found, well, part, bad}
 use Rattle.classify.specs.declared.Front.{Front}
 use Rattle.classify.specs.declared.Front.the-variants.{Well, Partial, Bad}

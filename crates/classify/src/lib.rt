@@ -30,6 +30,7 @@ fn leads(len: usize, lo: u8, hi: u8) -> Lead
     Lead { len, lo, hi }
 }
 
+// What a first byte says.
 pub fn lead_of(form: Form, b: u8) -> Lead
     ensures { λ r. ⌜ r ≡ leadOf (after b (rowsOf form)) ⌝ }
 {
@@ -51,7 +52,8 @@ pub fn lead_of(form: Form, b: u8) -> Lead
     }
 }
 
-// The stages of a sequence after some of its bytes; a number that is no stage leaves nothing, as BAD does.
+// A stage says what is still to come of a sequence. BAD: it cannot go on. WHOLE: nothing. From 2 to 4: one to three later bytes. The rest: a
+// second byte of the narrower range after E0, ED, F0 or F4, and later bytes. A number that is no stage cannot go on.
 pub const BAD: usize = 0;
 
 pub const WHOLE: usize = 1;
@@ -84,6 +86,7 @@ pub fn first(form: Form, b: u8) -> usize
     l.len
 }
 
+// The stage, if the byte is in the range.
 fn within(b: u8, lo: u8, hi: u8, stage: usize) -> usize
     ensures { λ r. ⌜ r ≡ cond (in? (lo to hi) b) stage 0 ⌝ }
 {
@@ -150,14 +153,15 @@ pub fn code_of(s: &[u8]) -> u32
     }
 }
 
-// What stands at the front of a slice. Well: a well-formed sequence, its code and length. Partial: all of the slice, and its length. Bad:
-// the length of the maximal subpart.
+// What stands at the front of a slice. Well: a well-formed sequence, its code and length. Partial: the slice is the beginning of one, and
+// its length. Bad: the length of the maximal subpart.
 pub enum Front {
     Well(u32, usize),
     Partial(usize),
     Bad(usize),
 }
 
+// n bytes begin a sequence, and the next does not go on: the maximal subpart is those bytes, or else one.
 fn bad_after(n: usize) -> Front
     ensures { λ r. ⌜ r ≡ Front.Bad (max 1 n) ⌝ }
 {
@@ -167,6 +171,7 @@ fn bad_after(n: usize) -> Front
     Front::Bad(n)
 }
 
+// A walk over the bytes, stage by stage, until the sequence is whole, cannot go on or runs out of bytes.
 pub fn front_of(form: Form, s: &[u8]) -> Front
     ensures { λ r. ⌜ told r ≡ toldOf (scan (rowsOf form) (now (s .entry))) (length (now (s .entry))) ⌝ }
 {

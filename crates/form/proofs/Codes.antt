@@ -1,13 +1,13 @@
 -- `sequence` is the inverse of the table's codes, and the codes of a form are those of the ranges that its rows tile. Assumes nothing.
-use mathlib.Core.Path.{_≡_, refl, sym, ap, _∙_, subst}
-use mathlib.Core.Logic.{_⊎_, inl, inr, ⊎-elim, _↔_}
+use mathlib.Core.Path.{_≡_, refl}
+use mathlib.Core.Logic.{inl, inr, ⊎-elim, _↔_}
 use mathlib.Core.Bool.{Bool, true, false, _&&_, cond}
 use mathlib.Core.List.{List, [], _∷_, _++_}
 use Prim.Native.Nat.{ℕ, suc, _+_, _-_, _≤_, _<_}
 use native.Mathlib.Omega.{arith}
 use lib.Dec.{T, leb, ltb, eqb, leb→le, eqb→eq}
-use borrow.Author.Tests.{le-leb, lt-ltb, le-ltb, ltb-true, ltb-false, eqb-true, eqb-false}
-use Rattle.form.specs.Table.{Range, _to_, Row, row, Form, In, InAny, Fits, size, index, Codes}
+use borrow.Author.Tests.{le-leb, lt-ltb, le-ltb, ltb-true, ltb-false, eqb-true}
+use Rattle.form.specs.Table.{Range, _to_, row, Form, In, InAny, Fits, size, index, Codes}
 use Rattle.form.specs.Text.{digits, sequence}
 use Rattle.form.proofs.Rows.{both, index-lt, digits-index, digits-fits, index-digits}
 use Rattle.form.proofs.Tests.{ascending, tiles}

@@ -2,12 +2,12 @@
 use mathlib.Core.Path.{_≡_, refl, sym, ap, _∙_}
 use mathlib.Core.Bool.{Bool, true, false, _&&_, cond}
 use mathlib.Core.List.{List, [], _∷_, _++_}
-use Prim.Native.Nat.{ℕ, _+_, _-_, _≤_, _<_}
+use Prim.Native.Nat.{ℕ, _+_, _-_, _≤_}
 use native.Mathlib.Omega.{arith}
 use lib.Dec.{T, leb, ltb, leb→le, ltb→lt}
-use Rattle.form.specs.Table.{Range, _to_, Row, row, Form, surrogates, Fits, size, escapes, Escape}
+use Rattle.form.specs.Table.{Range, _to_, row, Form, surrogates, Fits, size, escapes, Escape}
 use Rattle.form.specs.Scan.{in?}
-use Rattle.form.specs.Text.{digits, sequence, bytes, read, write, Bytes, Clean, Demand3}
+use Rattle.form.specs.Text.{digits, sequence, bytes, read, write, Bytes, Demand3}
 use Rattle.form.proofs.Tests.{proper, proper-rows, Sound}
 use Rattle.form.proofs.Rows.{both, true-T, in-true, digits-fits}
 use Rattle.form.proofs.Round.{write-read, read-clean, read-write}

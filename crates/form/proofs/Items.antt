@@ -8,7 +8,7 @@ use lib.ListN.{length, drop, getD}
 use lib.Seq.{drop-drop}
 use Rattle.form.specs.Table.{Form}
 use Rattle.form.specs.Scan.{Found, well, part, bad, scan}
-use Rattle.form.specs.Text.{Item, coded, stray, span, more, item, items, places}
+use Rattle.form.specs.Text.{Item, span, more, item, items, places}
 use Rattle.form.proofs.Tests.{open?}
 use Rattle.form.proofs.Scan.{scan-well, codes-nil}
 

@@ -1,16 +1,16 @@
 -- Over any sound form: writing undoes reading, what is read is clean, and reading undoes writing on clean lists. Assumes nothing.
 use mathlib.Core.Path.{_≡_, refl, sym, ap, _∙_, subst}
 use mathlib.Core.Logic.{_⊎_, inl, inr, ⊎-elim}
-use mathlib.Core.Bool.{Bool, true, false, _&&_}
+use mathlib.Core.Bool.{Bool, true, false}
 use mathlib.Core.List.{List, [], _∷_, _++_, map, append-assoc, nil≢cons, head-eq-of-cons-eq, tail-eq-of-cons-eq, List·Memᴰ}
-use Prim.Native.Nat.{ℕ, zero, suc, _+_, _-_, _≤_, _<_}
+use Prim.Native.Nat.{ℕ, zero, suc, _<_}
 use native.Mathlib.Omega.{arith}
 use lib.Dec.{T}
 use lib.ListN.{length, take, drop, take-append-drop}
 use lib.Seq.{drop-nil, drop-append-seam}
-use Rattle.form.specs.Table.{Range, Row, row, Form, surrogates, Fits, Codes, WellFormed, scalars, Scalar, escapes, Escape}
+use Rattle.form.specs.Table.{Range, row, Form, surrogates, Fits, Codes, WellFormed, scalars, Scalar, escapes, Escape}
 use Rattle.form.specs.Scan.{in?, Found, well, part, bad, scan}
-use Rattle.form.specs.Text.{Item, coded, stray, escape, code, more, item, items, read, bytes, write, All, Bytes, unescape, Clean}
+use Rattle.form.specs.Text.{Item, escape, code, more, item, items, read, bytes, write, All, Bytes, unescape, Clean}
 use Rattle.form.proofs.Tests.{clear, inner, uncut, Sound}
 use Rattle.form.proofs.Rows.{both, in-true, true-in}
 use Rattle.form.proofs.Scan.{clear-absurd, scan-well, well-scan, codes-nil}

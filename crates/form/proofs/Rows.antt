@@ -1,19 +1,19 @@
 -- Laws of one row: the tests against what they test, bytes beside the row, and the index, once for all rows. Assumes nothing.
-use mathlib.Core.Path.{_≡_, refl, sym, ap, _∙_, subst}
+use mathlib.Core.Path.{_≡_, refl, sym, ap, subst}
 use mathlib.Core.Logic.{_⊎_, inl, inr, ⊎-elim}
 use mathlib.Core.Bool.{Bool, true, false, _&&_, _||_}
 use mathlib.Core.List.{List, [], _∷_, _++_}
-use Prim.Native.Nat.{ℕ, zero, suc, _+_, _-_, _*_, _/_, _%_, _≤_, _<_}
+use Prim.Native.Nat.{ℕ, suc, _+_, _-_, _*_, _/_, _%_, _≤_, _<_}
 use native.Mathlib.Nat.{div-lt-iff-lt-mul, mod-lt, div-add-mod', mul-zero, eq-zero-or-pos}
 use native.Mathlib.Omega.{arith}
 use lib.Arith.{digits-lt, digits-div, digits-mod}
 use lib.Dec.{T, leb, leb→le}
 use lib.ListN.{length, take}
-use borrow.Author.Tests.{le-leb, lt-leb}
+use borrow.Author.Tests.{le-leb}
 use Rattle.form.specs.Table.{Range, _to_, In, Fits, size, index}
 use Rattle.form.specs.Scan.{in?, Fit, whole, short, stops, go-on, fit}
 use Rattle.form.specs.Text.{digits}
-use Rattle.form.proofs.Tests.{apart, proper}
+use Rattle.form.proofs.Tests.{proper}
 
 -- ---- tests
 

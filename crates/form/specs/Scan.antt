@@ -4,7 +4,7 @@ use mathlib.Core.List.{List, [], _∷_}
 use Prim.Native.Nat.{ℕ, suc, _+_, _-_, _*_, max}
 use lib.Dec.{leb}
 use lib.ListN.{length}
-use Rattle.form.specs.Table.{Range, _to_, Row, row, Form, size, index}
+use Rattle.form.specs.Table.{Range, _to_, row, Form, size, index}
 
 abbrev pub in? : Range → ℕ → Bool
 in? (lo to hi) n = leb lo n && leb n hi

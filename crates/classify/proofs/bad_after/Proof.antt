@@ -1,6 +1,5 @@
 -- Assumes nothing.
-use mathlib.Core.Path.{_≡_, ap}
-use Prim.Native.Nat.{ℕ, max}
+use mathlib.Core.Path.{ap}
 use native.Mathlib.Omega.{arith}
 use Rattle.classify.specs.declared.Front.the-variants.{Bad}
 use Rattle.classify.proofs.bad_after.Statement.{statement}

@@ -23,14 +23,13 @@ abbrev μ-loop : tie.MeasureT-loop
 μ-loop s stage₀ n₀ stage n = length s - n
 
 -- the form and the bytes given
-form : (c : tie.At-loop Inv-loop μ-loop) → Form
+abbrev form : tie.At-loop Inv-loop μ-loop → Form
 form c = c .before .before .before .before .before .args .form
 
 abbrev bytes : tie.At-loop Inv-loop μ-loop → List ℕ
 bytes c = c .before .before .before .before .before .args .s .now
 
 walked : (c : tie.At-loop Inv-loop μ-loop) → Walked (form c) (bytes c) (c .loop .n) (c .loop .stage)
-unfolding form
 walked c = c .loop .inv .2 (form c) (c .before .first .ensures)
 
 -- what was found tells this
@@ -48,7 +47,6 @@ loop-holds c =
     (omega arith, omega arith, λ f e. walk-first f s (c .first .result) (omega arith) (omega (arith, c .before .shared-slice-known2 .given 0)) e)
 
 returns-2 : tie.Need-returns-2 Inv-loop μ-loop
-unfolding form
 returns-2 c =
     let d = c .before .before in
     let e : d .loop .n ≡ length (bytes d) = omega arith in
@@ -64,7 +62,6 @@ slice-aggregate-code-of : tie.Need-slice-aggregate-code-of Inv-loop μ-loop
 slice-aggregate-code-of c = let d = c .before .before .before in sym (length-take-le (d .loop .n) (bytes d) (d .loop .inv .1))
 
 returns-3 : tie.Need-returns-3 Inv-loop μ-loop
-unfolding form
 returns-3 c =
     let d = c .before .before .before .before in
     tells (form d) (bytes d) (well (bits (take (d .loop .n) (bytes d))) (d .loop .n)) _
@@ -72,7 +69,6 @@ returns-3 c =
     (ap (λ (x : ℕ). record { number = 0; code = x; len = d .loop .n }) (c .code-of .ensures))
 
 returns-4 : tie.Need-returns-4 Inv-loop μ-loop
-unfolding form
 returns-4 c =
     let d = c .before .before .before in
     tells (form d) (bytes d) (bad (d .loop .n - 1)) _ (walk-bad (form d) (bytes d) (d .loop .n) (d .loop .stage) (walked d) (omega arith))
