@@ -1,3 +1,4 @@
+pub mod Forms
 pub mod Arms
 pub mod Stages
 pub mod Walk

@@ -8,27 +8,17 @@ use lib.Dec.{T}
 use lib.ListN.{length, take, drop, getD, drop-of-length-le}
 use lib.Seq.{drop-cons}
 use Rattle.form.specs.Table as Table
-use Rattle.form.specs.Table.{Codes}
 use Rattle.form.specs.Scan.{Found, well, part, bad, scan, after}
 use Rattle.form.specs.Pattern.{bits}
 use Rattle.form.proofs.Rows.{both}
-use Rattle.form.proofs.Tests.{Regular, some?, open?}
+use Rattle.form.proofs.Tests.{some?, open?}
 use Rattle.form.proofs.Scan.{scan-well}
 use Rattle.form.proofs.After.{grow, resume, uncoded, grow-uncoded, scan-after, resume-alike, scan-nil}
-use Rattle.form.proofs.Utf8.{plain-regular, surro-regular, plain-bits, surro-bits}
 use Rattle.classify.specs.declared.Form.{Form}
-use Rattle.classify.specs.declared.Form.the-variants.{Plain, Surro}
 use Rattle.classify.specs.Lead.{rowsOf}
 use Rattle.classify.specs.Stage.{stages, left, stageOf}
+use Rattle.classify.proofs.Forms.{form-regular, form-bits}
 use Rattle.classify.proofs.Stages.{first-closed, next-closed, live}
-
-pub form-regular : (f : Form) → Regular (rowsOf f)
-form-regular Plain = plain-regular
-form-regular Surro = surro-regular
-
-pub form-bits : (f : Form) (w : List ℕ) (c : ℕ) → Codes (rowsOf f) w c → c ≡ bits w
-form-bits Plain = plain-bits
-form-bits Surro = surro-bits
 
 -- with k bytes more in front
 abbrev pub grown : ℕ → Found → Found

@@ -20,11 +20,11 @@ items-skip F zero (b ∷ s) = refl
 items-skip F (suc k) (b ∷ s) = items-skip F k s
 
 -- a well-formed sequence has a byte
-pub well-some : (F : Form) (s : List ℕ) (c n : ℕ) → T (open? F) → scan F s ≡ well c n → 0 < n
+well-some : (F : Form) (s : List ℕ) (c n : ℕ) → T (open? F) → scan F s ≡ well c n → 0 < n
 well-some F s c zero o e = absurd (codes-nil F c o (scan-well F s c 0 e .0))
 well-some F s c (suc n) o e = omega arith
 
-pub span-more : (F : Form) (b : ℕ) (s : List ℕ) → T (open? F) → span (item (scan F (b ∷ s)) b s) ≡ suc (more (item (scan F (b ∷ s)) b s))
+span-more : (F : Form) (b : ℕ) (s : List ℕ) → T (open? F) → span (item (scan F (b ∷ s)) b s) ≡ suc (more (item (scan F (b ∷ s)) b s))
 span-more F b s o = go (scan F (b ∷ s)) refl
   where
     go : (x : Found) → scan F (b ∷ s) ≡ x → span (item x b s) ≡ suc (more (item x b s))
@@ -33,7 +33,7 @@ span-more F b s o = go (scan F (b ∷ s)) refl
     go part e = refl
     go (bad n) e = refl
 
-pub span-within : (F : Form) (b : ℕ) (s : List ℕ) → span (item (scan F (b ∷ s)) b s) ≤ suc (length s)
+span-within : (F : Form) (b : ℕ) (s : List ℕ) → span (item (scan F (b ∷ s)) b s) ≤ suc (length s)
 span-within F b s = go (scan F (b ∷ s)) refl
   where
     go : (x : Found) → scan F (b ∷ s) ≡ x → span (item x b s) ≤ suc (length s)
