@@ -1,10 +1,9 @@
 -- What the reader's two loops keep, and what each way out of them means. Assumes nothing.
 use mathlib.Core.Path.{_≡_, refl, sym, ap, _∙_}
-use mathlib.Core.Logic.{_⊎_, inl, inr}
-use mathlib.Core.Bool.{Bool, true, false, not, cond}
-use mathlib.Core.List.{List, [], _∷_, _++_, append-assoc, append-nil}
-use Prim.Native.Nat.{ℕ, zero, suc, _+_, _-_, _≤_, _<_, max}
-use native.Mathlib.Nat.{add-assoc, add-zero, zero-add, sub-zero}
+use mathlib.Core.Bool.{true, false, cond}
+use mathlib.Core.List.{List, [], _∷_, _++_, append-nil}
+use Prim.Native.Nat.{ℕ, suc, _+_, _-_, _≤_, _<_, max}
+use native.Mathlib.Nat.{add-zero, sub-zero}
 use native.Mathlib.Numerals.{add-one}
 use native.Mathlib.Omega.{arith}
 use lib.ListN.{length, getD, take, drop, set, length-set, length-drop, take-append-drop}
@@ -20,7 +19,8 @@ use Rattle.classify.specs.Lead.{rowsOf}
 use Rattle.classify.specs.Stage.{left, stageOf}
 use Rattle.classify.proofs.Walk.{Walked, walk-first, walk-next, walk-part, walk-whole, walk-bad}
 use Rattle.decode.specs.declared.Decoded.{Decoded}
-use Rattle.decode.specs.Reading.{Turn, stop, convert, waits, convertItem, turn, Reading, stopped, follow, upon, reading, tableOf, decoding, decodedOf}
+use Rattle.decode.specs.Reading.{stop, convert, waits, convertItem, turn, stopped, follow, reading, tableOf, decoding, decodedOf}
+use Rattle.decode.proofs.Readings.{reading-stop, reading-full, reading-convert, follow-follow, follow-none}
 
 -- the reader's promise, for a flag number f that it answers with the number q, `at` bytes consumed and n codes produced
 abbrev pub Answered : ℕ → List ℕ → List ℕ → List ℕ → ℕ → ℕ → ℕ → Type 0
@@ -32,29 +32,8 @@ pub refused : (f : ℕ) (s out : List ℕ) → reader-refuses f ≡ true → Ans
 unfolding decoding decodedOf stopped
 refused f s out e = rw e (refl, refl)
 
--- ---- a reading, place by place
+-- ---- the outer loop: `at` bytes are consumed, and n codes stand in front of the buffer
 
-pub reading-stop : (F : Table.Form) (m : Flags) (room : ℕ) (s : List ℕ) (q k : ℕ) → turn F m s ≡ stop q k → reading F m room s ≡ stopped q k
-reading-stop F m zero s q k e = rw e refl
-reading-stop F m (suc room) s q k e = rw e refl
-
-pub reading-full : (F : Table.Form) (m : Flags) (s : List ℕ) (c k : ℕ) → turn F m s ≡ convert c k → reading F m zero s ≡ stopped 1 0
-reading-full F m s c k e = rw e refl
-
-pub reading-convert : (F : Table.Form) (m : Flags) (room : ℕ) (s : List ℕ) (c k : ℕ) → turn F m s ≡ convert c k
-    → reading F m (suc room) s ≡ follow (c ∷ []) k (reading F m room (drop k s))
-reading-convert F m room s c k e = rw e refl
-
-pub follow-follow : (cs ds : List ℕ) (k n : ℕ) (R : Reading) → follow cs k (follow ds n R) ≡ follow (cs ++ ds) (k + n) R
-unfolding follow
-follow-follow cs ds k n R =
-    λ i. record { number = R .number; consumed = sym (add-assoc k n (R .consumed)) i; codes = sym (append-assoc cs ds (R .codes)) i; subpart = R .subpart }
-
-pub follow-none : (R : Reading) → follow [] 0 R ≡ R
-unfolding follow
-follow-none R = λ i. record { number = R .number; consumed = zero-add (R .consumed) i; codes = R .codes; subpart = R .subpart }
-
--- the outer loop: `at` bytes are consumed, and n codes stand in front of the buffer
 pub record Reached (F : Table.Form) (m : Flags) (s out₀ out : List ℕ) (at n : ℕ) : Type 0 where
   pub place : at ≤ length s
   pub room : n ≤ length out₀

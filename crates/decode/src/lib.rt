@@ -93,7 +93,13 @@ pub fn decode(s: &[u8], codes: &mut [u32], flags: u32) -> Decoded
 }
 
 // The reader, which hands back the unread rest as a part of the caller's own bytes.
-pub fn decode_rest<'a>(s: &'a [u8], codes: &mut [u32], flags: u32, number: &mut u8, produced: &mut usize) -> &'a [u8]
+pub fn decode_rest<'a>(
+    s: &'a [u8],
+    codes: &mut [u32],
+    flags: u32,
+    number: &mut u8,
+    produced: &mut usize,
+) -> &'a [u8]
     ensures rest { λ r. ⌜ RestOf (s .entry) (decoding flags (length (now (codes .entry))) (now (s .entry)) .consumed) r ⌝ }
     ensures stop { λ _. ⌜ now (number .exit) ≡ decoding flags (length (now (codes .entry))) (now (s .entry)) .number ⌝ }
     ensures count { λ _. ⌜ now (produced .exit) ≡ length (decoding flags (length (now (codes .entry))) (now (s .entry)) .codes) ⌝ }

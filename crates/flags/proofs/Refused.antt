@@ -1,12 +1,12 @@
 -- The reader refuses the numbers from 12 on, and the writer those from 8 on. Assumes nothing.
 use mathlib.Core.Path.{_≡_, refl}
-use mathlib.Core.Bool.{Bool, true, false, _&&_, _||_, not}
-use Prim.Native.Nat.{ℕ, _/_, _%_, _≤_, _<_}
+use mathlib.Core.Bool.{Bool, true, false, _&&_}
+use Prim.Native.Nat.{ℕ, _/_, _%_, _≤_}
 use native.Mathlib.Omega.{arith}
 use native.Mathlib.Decide.{decLe}
 use lib.Dec.{leb, eqb}
 use borrow.Author.Tests.{le-leb, lt-leb, eq-eqb, ne-eqb}
-use Rattle.flags.specs.Number.{bit, other-bit, reader-refuses, writer-refuses}
+use Rattle.flags.specs.Number.{reader-refuses, writer-refuses}
 
 and-false : (t : Bool) → (t && false) ≡ false
 and-false true = refl
