@@ -1,0 +1,5 @@
+pub mod Sequences
+pub mod Given
+pub mod Turns
+pub mod Places
+pub mod Theorems

@@ -1,0 +1,107 @@
+-- What the writer's loop keeps from code to code, and what it has answered at each way to stop. Assumes nothing.
+use mathlib.Core.Path.{_≡_, refl, sym, ap, _∙_}
+use mathlib.Core.Bool.{true, false}
+use mathlib.Core.List.{List, _∷_, _++_, append-nil}
+use Prim.Native.Nat.{ℕ, _+_, _-_, _≤_, _<_}
+use native.Mathlib.Numerals.{add-one}
+use native.Mathlib.Nat.{zero-add, add-zero, sub-zero}
+use native.Mathlib.Omega.{arith}
+use lib.ListN.{length, getD, take, drop, take-append-drop}
+use lib.Seq.{paste, length-paste, take-paste, drop-paste, drop-drop, drop-cons, drop-length, length-take-le}
+use Rattle.flags.specs.declared.Flags.{Flags}
+use Rattle.flags.specs.Number.{flagsOf, writer-refuses}
+use Rattle.form.specs.Table.{plain}
+use Rattle.encode.specs.declared.Coded.{Coded}
+use Rattle.encode.specs.declared.Encoded.{Encoded}
+use Rattle.encode.specs.Leaf.{codedOf}
+use Rattle.encode.specs.Writing.{bytes, Writing, stopped, after, writing, encoding, encodedOf}
+use Rattle.encode.proofs.Given.{given, Offered, none-refused, some-offered}
+use Rattle.encode.proofs.Turns.{writing-refused, writing-full, writing-on, follow, follow-after}
+
+-- ---- the loop has come to a place: `at` codes are consumed, and their n bytes stand at the front of the buffer d
+pub record Reached (m : Flags) (l d₀ d : List ℕ) (at n : ℕ) : Type 0 where
+  pub place : at ≤ length l
+  pub room : n ≤ length d₀
+  pub same : length d ≡ length d₀
+  pub tail : drop n d ≡ drop n d₀
+  pub whole : writing plain m (length d₀) l ≡ follow (take n d) at (writing plain m (length d₀ - n) (drop at l))
+
+pub reached-start : (m : Flags) (l d : List ℕ) → Reached m l d d 0 0
+unfolding follow
+reached-start m l d =
+    let W = writing plain m (length d) l in
+    record { place = omega arith; room = omega arith; same = refl; tail = refl; whole = rw (sub-zero (length d), zero-add (W .consumed)) refl }
+
+module _ {m : Flags} {l d₀ d : List ℕ} {at n : ℕ} (r : Reached m l d₀ d at n) where
+  -- at the end of the codes
+  pub reached-end : at ≡ length l → writing plain m (length d₀ - n) (drop at l) ≡ stopped 0
+  reached-end e = rw (e, drop-length l) refl
+
+  module _ (w : Coded) (h : at < length l) (e : w ≡ codedOf (given m (getD l at 0))) where
+    here : drop at l ≡ getD l at 0 ∷ drop (at + 1) l
+    here = rw (add-one at) (drop-cons l at 0 h)
+
+    -- at a code that is refused
+    pub reached-refused : w .count ≡ 0 → writing plain m (length d₀ - n) (drop at l) ≡ stopped 3
+    reached-refused z = rw here (writing-refused m (length d₀ - n) (getD l at 0) (drop (at + 1) l) (none-refused m (getD l at 0) w e z))
+
+    -- at a code with more bytes than there is room for
+    pub reached-full : (w .count ≡ 0 → ⊥) → length d - n < w .count → writing plain m (length d₀ - n) (drop at l) ≡ stopped 1
+    reached-full z f =
+        let o = some-offered m (getD l at 0) w e z in
+        rw here (writing-full m (length d₀ - n) (getD l at 0) (drop (at + 1) l) (o .accepted) (omega (arith, o .count, r .same)))
+
+    -- past a code that is written
+    pub reached-next : (w .count ≡ 0 → ⊥) → w .count ≤ length d - n → Reached m l d₀ (paste d n (w .bytes) (w .count)) (at + 1) (n + w .count)
+    reached-next z f =
+        record {
+          place = omega arith;
+          room = omega (arith, r .same, r .room);
+          same = length-paste d n (w .bytes) (w .count) (omega (arith, r .same, r .room)) (o .enough) ∙ r .same;
+          tail =
+              drop-paste d n (w .bytes) (w .count) (omega (arith, r .same, r .room)) (o .enough)
+              ∙ sym (drop-drop (w .count) n d)
+              ∙ ap (drop (w .count)) (r .tail)
+              ∙ drop-drop (w .count) n d₀;
+          whole = r .whole ∙ ap (follow (take n d) at) on ∙ follow-after (take n d) v at rest ∙ ap (λ (x : List ℕ). follow x (at + 1) rest) front;
+        }
+      where
+        c : ℕ
+        c = getD l at 0
+
+        v : List ℕ
+        v = bytes plain m c
+
+        o : Offered m c w
+        o = some-offered m c w e z
+
+        rest : Writing
+        rest = writing plain m (length d₀ - (n + w .count)) (drop (at + 1) l)
+
+        on : writing plain m (length d₀ - n) (drop at l) ≡ after v rest
+        on =
+            let k : length d₀ - n - length v ≡ length d₀ - (n + w .count) = omega (arith, o .count) in
+            rw here
+            (writing-on m (length d₀ - n) c (drop (at + 1) l) (o .accepted) (omega (arith, o .count, r .same))
+            ∙ ap (λ (x : ℕ). after v (writing plain m x (drop (at + 1) l))) k)
+
+        front : take n d ++ v ≡ take (n + w .count) (paste d n (w .bytes) (w .count))
+        front = sym (take-paste d n (w .bytes) (w .count) (omega (arith, r .same, r .room)) (o .enough) ∙ ap (λ (x : List ℕ). take n d ++ x) (o .front))
+
+-- ---- the answer and the buffer, as promised
+
+abbrev Promised : ℕ → List ℕ → List ℕ → List ℕ → Encoded → Type 0
+Promised f l d₀ d r = (r ≡ encodedOf (encoding f (length d₀) l)) × (d ≡ encoding f (length d₀) l .written ++ drop (r .produced) d₀)
+
+-- where the writing stops with the number q at the place that the loop has come to
+pub answered : (f q : ℕ) {l d₀ d : List ℕ} {at n : ℕ} → writer-refuses f ≡ false → (r : Reached (flagsOf f) l d₀ d at n)
+    → writing plain (flagsOf f) (length d₀ - n) (drop at l) ≡ stopped q → Promised f l d₀ d (record { number = q; consumed = at; produced = n })
+unfolding encoding encodedOf follow stopped
+answered f q {l} {d₀} {d} {at} {n} a r e =
+    rw (a, r .whole ∙ ap (follow (take n d) at) e, append-nil, length-take-le n d (omega (arith, r .same, r .room)), add-zero, ← r .tail)
+    (refl, sym (take-append-drop n d))
+
+-- where the flags are refused
+pub refusal : (f : ℕ) (l d : List ℕ) → writer-refuses f ≡ true → Promised f l d d (record { number = 4; consumed = 0; produced = 0 })
+unfolding encoding encodedOf stopped
+refusal f l d e = rw e (refl, refl)

@@ -1,0 +1,85 @@
+-- Demand 3 holds. Assumes nothing.
+use mathlib.Core.Path.{_≡_, refl, sym, ap, _∙_}
+use mathlib.Core.Logic.{_⊎_, inl, inr}
+use mathlib.Core.List.{List, [], _∷_}
+use Prim.Native.Nat.{ℕ, _+_, _≤_}
+use native.Mathlib.Omega.{arith}
+use lib.ListN.{length, length-append}
+use Rattle.form.specs.Table.{plain, Scalar, Escape}
+use Rattle.form.specs.Text.{bytes, read, write, All, Bytes, Accepted}
+use Rattle.form.proofs.Demand.{write-bytes}
+use Rattle.form.proofs.Utf8.{plain-regular, plain-demand3}
+use Rattle.decode.proofs.Theorems.{reads-all}
+use Rattle.encode.proofs.Theorems.{encoding-write}
+use Rattle.roundtrip.specs.Demand.{Reads, Writes, needs, CleanList, Demand3}
+
+write-length : (l : List ℕ) → length (write plain l) ≡ needs l
+write-length [] = refl
+write-length (c ∷ l) = length-append (bytes plain c) (write plain l) ∙ ap (λ (n : ℕ). length (bytes plain c) + n) (write-length l)
+
+clean-accepted : (l : List ℕ) → CleanList l → Accepted l
+clean-accepted l h = go l (h .0)
+  where
+    below : (c : ℕ) → Scalar c ⊎ Escape c → c ≤ 0x10FFFF
+    below c (inl (inl h)) = omega arith
+    below c (inl (inr (inl h))) = omega arith
+    below c (inl (inr (inr h))) = absurd h
+    below c (inr h) = omega arith
+
+    go : (l : List ℕ) → All (λ c. Scalar c ⊎ Escape c) l → Accepted l
+    go [] h = tt
+    go (c ∷ l) h = (below c (h .0), go l (h .1))
+
+-- the two calls are `read` and `write`
+
+reads : (s : List ℕ) (r : ℕ) → length s ≤ r → Reads r s (read plain s)
+reads s r h = rw (reads-all r s h) (refl, refl, refl)
+
+is-read : (s l : List ℕ) (r : ℕ) → length s ≤ r → Reads r s l → l ≡ read plain s
+is-read s l r h g = sym (g .2) ∙ reads s r h .2
+
+writes : (l : List ℕ) (w : ℕ) → Accepted l → needs l ≤ w → Writes w l (write plain l)
+writes l w a h = rw (encoding-write l w a (omega (arith, write-length l))) (refl, refl, refl)
+
+is-write : (l s : List ℕ) (w : ℕ) → Accepted l → needs l ≤ w → Writes w l s → s ≡ write plain l
+is-write l s w a h g = sym (g .2) ∙ writes l w a h .2
+
+read-accepted : (s : List ℕ) → Bytes s → Accepted (read plain s)
+read-accepted s b = clean-accepted (read plain s) (plain-demand3 .clean s b)
+
+-- a list that is read is written as those bytes
+read-writes : (s l : List ℕ) (r w : ℕ) → Bytes s → length s ≤ r → Reads r s l → needs l ≤ w → Writes w l s
+read-writes s l r w b h g n =
+    let e = is-read s l r h g in
+    let a : Accepted l = rw e (read-accepted s b) in
+    rw (ap (write plain) e ∙ plain-demand3 .exact s b) at (writes l w a n)
+
+-- what was written of an accepted list are bytes
+written-bytes : (l s : List ℕ) (w : ℕ) → Accepted l → needs l ≤ w → Writes w l s → Bytes s
+written-bytes l s w a n h = rw (is-write l s w a n h) (write-bytes plain l (plain-regular .is-proper))
+
+pub demand3 : Demand3
+demand3 =
+    record {
+      clean = λ s r b h. (read plain s, reads s r h, plain-demand3 .clean s b);
+      exact = read-writes;
+      only =
+          λ s l k r w b h g c d n.
+          let e = is-read s l r h g in
+          (write plain k, writes k w (clean-accepted k c) n, λ z. plain-demand3 .only s k b c (λ y. d (y ∙ sym e)) z);
+      accepts = λ l w a n. (write plain l, writes l w a n, write-bytes plain l (plain-regular .is-proper));
+      alike =
+          λ l m s t a b v w r q al am nl nm wl wm h k ra rb.
+          let e = is-write l s v al nl wl in
+          let f = is-write m t w am nm wm in
+          let x = is-read s a r h ra in
+          let y = is-read t b q k rb in (
+            λ z. x ∙ ap (read plain) z ∙ sym y,
+            λ z. e ∙ plain-demand3 .alike l m al am .1 (sym (ap (read plain) e) ∙ sym x ∙ z ∙ y ∙ ap (read plain) f) ∙ sym f,
+          );
+      again = λ l s a w r v al nl wl h ra na. read-writes s a r v (written-bytes l s w al nl wl) h ra na;
+      settled =
+          λ l s a t w r v q al nl wl h ra na wt k.
+          let e : t ≡ s = sym (wt .2) ∙ read-writes s a r v (written-bytes l s w al nl wl) h ra na .2 in
+          rw (is-read s a r h ra ∙ ap (read plain) (sym e)) (reads t q k);
+    }

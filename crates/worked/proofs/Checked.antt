@@ -1,0 +1,41 @@
+-- The lines are so, by computation. Assumes nothing.
+use mathlib.Core.Path.{_≡_, refl}
+use mathlib.Core.List.{List, [], _∷_, map}
+use Prim.Native.Nat.{ℕ}
+use native.Mathlib.Omega.{arith}
+use Rattle.flags.specs.Number.{flagsOf, reader-refuses, writer-refuses}
+use Rattle.form.specs.Table.{plain, surro, WellFormed, Escape}
+use Rattle.form.specs.Scan.{well, scan}
+use Rattle.form.specs.Text.{All, unescape}
+use Rattle.form.proofs.Utf8.{plain-scans, plain-run, plain-demand3}
+use Rattle.decode.specs.Reading.{stopped, follow, decoding}
+use Rattle.encode.specs.Writing as Writing
+use Rattle.encode.specs.Writing.{refuses, bytes, after, encoding}
+use Rattle.worked.specs.Lines.{Lines}
+
+pub lines : Lines
+unfolding plain surro flagsOf reader-refuses writer-refuses stopped follow decoding Writing.stopped refuses bytes after encoding
+lines =
+    record {
+      none = refl;
+      null = refl;
+      forty-minutes = refl;
+      highest = refl;
+      too-high = refl;
+      overlong = refl;
+      surrogate = refl;
+      surrogate-through = refl;
+      cut = refl;
+      cut-waits = refl;
+      droplet = refl;
+      strict = refl;
+      escapes-written = refl;
+      prime-written = refl;
+      prime-clean = plain-demand3 .clean (0xE2 ∷ 0x80 ∷ 0xB2 ∷ []) (omega arith, (omega arith, (omega arith, tt)));
+      escapes-unclean =
+          λ h.
+          let l : List ℕ = 0xDCE2 ∷ 0xDC80 ∷ 0xDCB2 ∷ [] in
+          let e : All Escape l = ((omega arith, omega arith), ((omega arith, omega arith), ((omega arith, omega arith), tt))) in
+          let w : WellFormed plain (map unescape l) = (0x2032, plain-scans .finds-well (map unescape l) 0x2032 3 .0 refl .0) in
+          h .1 [] l [] refl (plain-run l e w) e w;
+    }

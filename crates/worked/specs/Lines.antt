@@ -1,0 +1,45 @@
+-- "Lines checked by hand": the rows marked *, under a single statement. Assumes nothing.
+use mathlib.Core.Path.{_≡_}
+use mathlib.Core.List.{List, [], _∷_}
+use Prim.Native.Nat.{ℕ}
+use lib.ListN.{length}
+use Rattle.decode.specs.Reading.{decoding}
+use Rattle.encode.specs.Writing.{encoding}
+use Rattle.roundtrip.specs.Demand.{CleanList}
+
+-- flag numbers
+abbrev LAST : ℕ
+LAST = 1
+
+abbrev LAST+SURRO : ℕ
+LAST+SURRO = 3
+
+abbrev LAST+STRICT : ℕ
+LAST+STRICT = 5
+
+-- with room for a code per byte the bytes s give the codes l, all are consumed, and the number is 0
+abbrev pub Gives : ℕ → List ℕ → List ℕ → Type 0
+Gives flags s l = decoding flags (length s) s ≡ record { number = 0; consumed = length s; codes = l; subpart = 0 }
+
+-- without flags and with room w the codes l are written as the bytes s, all are consumed, and the number is 0
+abbrev pub Writes : ℕ → List ℕ → List ℕ → Type 0
+Writes w l s = encoding 0 w l ≡ record { number = 0; consumed = length l; written = s }
+
+pub record Lines : Type 0 where
+  pub none : Gives LAST [] []
+  pub null : Gives LAST (0x00 ∷ []) (0x0 ∷ [])
+  pub forty-minutes : Gives LAST (0x34 ∷ 0x30 ∷ 0xE2 ∷ 0x80 ∷ 0xB2 ∷ []) (0x34 ∷ 0x30 ∷ 0x2032 ∷ [])
+  pub highest : Gives LAST (0xF4 ∷ 0x8F ∷ 0xBF ∷ 0xBF ∷ []) (0x10FFFF ∷ [])
+  pub too-high : Gives LAST (0xF4 ∷ 0x90 ∷ 0x80 ∷ 0x80 ∷ []) (0xDCF4 ∷ 0xDC90 ∷ 0xDC80 ∷ 0xDC80 ∷ [])
+  pub overlong : Gives LAST (0xC0 ∷ 0x80 ∷ []) (0xDCC0 ∷ 0xDC80 ∷ [])
+  pub surrogate : Gives LAST (0xED ∷ 0xA0 ∷ 0x80 ∷ []) (0xDCED ∷ 0xDCA0 ∷ 0xDC80 ∷ [])
+  pub surrogate-through : Gives LAST+SURRO (0xED ∷ 0xA0 ∷ 0x80 ∷ []) (0xD800 ∷ [])
+  pub cut : Gives LAST (0xE2 ∷ 0x80 ∷ []) (0xDCE2 ∷ 0xDC80 ∷ [])
+  pub cut-waits : decoding 0 2 (0xE2 ∷ 0x80 ∷ []) ≡ record { number = 2; consumed = 0; codes = []; subpart = 0 }
+  pub droplet : Gives LAST (0xF0 ∷ 0x9F ∷ 0x92 ∷ 0xA7 ∷ []) (0x1F4A7 ∷ [])
+  pub strict : decoding LAST+STRICT 2 (0x34 ∷ 0x80 ∷ []) ≡ record { number = 3; consumed = 1; codes = 0x34 ∷ []; subpart = 1 }
+  -- the writer's line
+  pub escapes-written : Writes 3 (0xDCE2 ∷ 0xDC80 ∷ 0xDCB2 ∷ []) (0xE2 ∷ 0x80 ∷ 0xB2 ∷ [])
+  pub prime-written : Writes 3 (0x2032 ∷ []) (0xE2 ∷ 0x80 ∷ 0xB2 ∷ [])
+  pub prime-clean : CleanList (0x2032 ∷ [])
+  pub escapes-unclean : CleanList (0xDCE2 ∷ 0xDC80 ∷ 0xDCB2 ∷ []) → ⊥
