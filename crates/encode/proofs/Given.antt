@@ -18,7 +18,7 @@ use Rattle.encode.specs.Leaf.{codedOf}
 use Rattle.encode.specs.Writing.{refuses, bytes}
 use Rattle.encode.proofs.Sequences.{Kind, scalar, surrogate, beyond, kind, scalar-below, scalar-outside, plain-scalar, plain-surrogate, plain-none, surro-all, surro-none, writer-rows, One-to-four, pattern-bytes}
 
-true-false : {ℓ : Type 0} → true ≡ false → ℓ
+true-false : {A : Type 0} → true ≡ false → A
 true-false e = let z : _≡_ {A = ℕ} 0 1 = ap (λ (t : Bool). cond t 0 1) e in absurd (omega arith)
 
 not-in : (r : Range) (n : ℕ) → (In r n → ⊥) → in? r n ≡ false
@@ -41,13 +41,9 @@ refuses-beyond : (m : Flags) (c : ℕ) → 0x10FFFF < c → refuses m c ≡ true
 unfolding refuses
 refuses-beyond m c h = rw (lt-ltb 0x10FFFF c h) refl
 
-refuses-none : (m : Flags) (c : ℕ) → refuses-surrogates m ≡ false → c ≤ 0x10FFFF → refuses m c ≡ false
+refuses-low : (m : Flags) (c : ℕ) (t : Bool) → refuses-surrogates m ≡ t → c ≤ 0x10FFFF → refuses m c ≡ (t && in? (0xD800 to 0xDFFF) c)
 unfolding refuses
-refuses-none m c e h = rw (le-ltb 0x10FFFF c h, e) refl
-
-refuses-some : (m : Flags) (c : ℕ) → refuses-surrogates m ≡ true → c ≤ 0x10FFFF → refuses m c ≡ in? (0xD800 to 0xDFFF) c
-unfolding refuses
-refuses-some m c e h = rw (le-ltb 0x10FFFF c h, e) refl
+refuses-low m c t e h = rw (le-ltb 0x10FFFF c h, e) refl
 
 pub refuses-within : (m : Flags) (c : ℕ) → refuses m c ≡ false → c ≤ 0x10FFFF
 refuses-within m c e = go (decLe c 0x10FFFF)
@@ -68,27 +64,33 @@ given-refused m c e = rw e refl
 given-bytes : (m : Flags) (c : ℕ) → refuses m c ≡ false → given m c ≡ bytes plain m c
 given-bytes m c e = rw e refl
 
-bytes-surro : (m : Flags) (c : ℕ) → m .surro ≡ true → bytes plain m c ≡ sequence surro c
+either-way : (P : List ℕ → Type 0) (t : Bool) (v w : List ℕ) → P v → P w → P (cond t v w)
+either-way P true v w p q = p
+either-way P false v w p q = q
+
+pub bytes-surro : (m : Flags) (c : ℕ) → m .surro ≡ true → bytes plain m c ≡ sequence surro c
 unfolding bytes
 bytes-surro m c e = rw e (writer-rows c)
 
-bytes-escape : (m : Flags) (c : ℕ) → m .surro ≡ false → Escape c → bytes plain m c ≡ (c - 0xDC00) ∷ []
+pub bytes-escape : (m : Flags) (c : ℕ) → m .surro ≡ false → Escape c → bytes plain m c ≡ (c - 0xDC00) ∷ []
 unfolding bytes
 bytes-escape m c e h = rw (e, true-in escapes c h) refl
 
-bytes-other : (m : Flags) (c : ℕ) → m .surro ≡ false → (Escape c → ⊥) → bytes plain m c ≡ sequence surro c
+pub bytes-other : (m : Flags) (c : ℕ) → (Escape c → ⊥) → bytes plain m c ≡ sequence surro c
 unfolding bytes
-bytes-other m c e h = rw (e, not-in escapes c h) (writer-rows c)
+bytes-other m c h =
+    either-way (λ w. w ≡ sequence surro c) (m .surro) (sequence (plain ++ (surrogates ∷ [])) c) (Text.bytes plain c) (writer-rows c)
+    (rw (not-in escapes c h) (writer-rows c))
+
+given-lax : (m : Flags) (c : ℕ) → refuses-surrogates m ≡ false → bytes plain m c ≡ sequence surro c → given m c ≡ sequence surro c
+given-lax m c e h = go (decLe c 0x10FFFF)
+  where
+    go : Dec (c ≤ 0x10FFFF) → given m c ≡ sequence surro c
+    go (yes g) = given-bytes m c (refuses-low m c false e g) ∙ h
+    go (no g) = let l : 0x10FFFF < c = omega arith in given-refused m c (refuses-beyond m c l) ∙ sym (surro-none c l)
 
 pub given-surro : (m : Flags) (c : ℕ) → m .surro ≡ true → given m c ≡ sequence surro c
-given-surro m c e = go (decLe c 0x10FFFF)
-  where
-    lax : refuses-surrogates m ≡ false
-    lax = rw e (and-false (m .strict))
-
-    go : Dec (c ≤ 0x10FFFF) → given m c ≡ sequence surro c
-    go (yes h) = given-bytes m c (refuses-none m c lax h) ∙ bytes-surro m c e
-    go (no h) = let l : 0x10FFFF < c = omega arith in given-refused m c (refuses-beyond m c l) ∙ sym (surro-none c l)
+given-surro m c e = given-lax m c (rw e (and-false (m .strict))) (bytes-surro m c e)
 
 pub given-strict : (m : Flags) (c : ℕ) → m .surro ≡ false → m .strict ≡ true → given m c ≡ sequence plain c
 given-strict m c e f = go (kind c)
@@ -99,12 +101,12 @@ given-strict m c e f = go (kind c)
     go : Kind c → given m c ≡ sequence plain c
     go (scalar s) =
         let h = scalar-below c s in
-        given-bytes m c (refuses-some m c strict h ∙ not-in (0xD800 to 0xDFFF) c (λ u. omega (arith, scalar-outside c s (u .0))))
-        ∙ bytes-other m c e (λ u. omega (arith, scalar-outside c s (omega arith)))
+        given-bytes m c (refuses-low m c true strict h ∙ not-in (0xD800 to 0xDFFF) c (λ u. omega (arith, scalar-outside c s (u .0))))
+        ∙ bytes-other m c (λ u. omega (arith, scalar-outside c s (omega arith)))
         ∙ surro-all c h
         ∙ sym (plain-scalar c s)
     go (surrogate l h) =
-        given-refused m c (refuses-some m c strict (omega arith) ∙ true-in (0xD800 to 0xDFFF) c (l, h)) ∙ sym (plain-surrogate c l h)
+        given-refused m c (refuses-low m c true strict (omega arith) ∙ true-in (0xD800 to 0xDFFF) c (l, h)) ∙ sym (plain-surrogate c l h)
     go (beyond h) = given-refused m c (refuses-beyond m c h) ∙ sym (plain-none c (λ s. omega (arith, scalar-below c s)))
 
 module _ (m : Flags) (c : ℕ) (e : m .surro ≡ false) (f : m .strict ≡ false) where
@@ -112,20 +114,12 @@ module _ (m : Flags) (c : ℕ) (e : m .surro ≡ false) (f : m .strict ≡ false
   lax = rw f refl
 
   pub given-escape : Escape c → given m c ≡ (c - 0xDC00) ∷ []
-  given-escape h = given-bytes m c (refuses-none m c lax (omega arith)) ∙ bytes-escape m c e h
+  given-escape h = given-bytes m c (refuses-low m c false lax (omega arith)) ∙ bytes-escape m c e h
 
   pub given-other : (Escape c → ⊥) → given m c ≡ sequence surro c
-  given-other h = go (decLe c 0x10FFFF)
-    where
-      go : Dec (c ≤ 0x10FFFF) → given m c ≡ sequence surro c
-      go (yes g) = given-bytes m c (refuses-none m c lax g) ∙ bytes-other m c e h
-      go (no g) = let l : 0x10FFFF < c = omega arith in given-refused m c (refuses-beyond m c l) ∙ sym (surro-none c l)
+  given-other h = given-lax m c lax (bytes-other m c h)
 
 -- ---- a code that is not refused is written as one to four bytes
-
-either-way : (P : List ℕ → Type 0) (t : Bool) (v w : List ℕ) → P v → P w → P (cond t v w)
-either-way P true v w p q = p
-either-way P false v w p q = q
 
 pub bytes-written : (m : Flags) (c : ℕ) → refuses m c ≡ false → One-to-four (bytes plain m c)
 unfolding bytes

@@ -3,3 +3,4 @@ pub mod Given
 pub mod Turns
 pub mod Places
 pub mod Theorems
+pub mod Stretches

@@ -1,41 +1,25 @@
 -- The whole-buffer writer, for every flag number, room and list of codes. Assumes nothing.
-use mathlib.Core.Path.{_≡_, refl, sym, ap, _∙_}
-use mathlib.Core.Logic.{_↔_}
-use mathlib.Core.Bool.{Bool, true, false, cond}
-use mathlib.Core.List.{List, [], _∷_, _++_, append-assoc}
-use Prim.Native.Nat.{ℕ, suc, _+_, _-_, _*_, _/_, _%_, _≤_, _<_}
-use native.Mathlib.Nat.{zero-add}
+use mathlib.Core.Path.{_≡_, refl, ap, _∙_}
+use mathlib.Core.Logic.{_⊎_, ⊎-elim, _↔_}
+use mathlib.Core.Bool.{true, false}
+use mathlib.Core.List.{List, [], _∷_, _++_}
+use Prim.Native.Nat.{ℕ, _+_, _-_, _*_, _/_, _%_, _≤_, _<_}
 use native.Mathlib.Omega.{arith}
-use lib.ListN.{length, take, drop, length-append}
-use borrow.Author.Tests.{le-ltb}
+use lib.ListN.{length, take, length-append}
+use borrow.Author.Tests.{lt-ltb, le-ltb}
 use Rattle.flags.specs.declared.Flags.{Flags}
 use Rattle.flags.specs.Number.{flagsOf, writer-refuses}
-use Rattle.form.specs.Table.{plain}
+use Rattle.form.specs.Table.{_to_, plain, In, Codes, Scalar, Escape}
+use Rattle.form.specs.Pattern.{pattern}
 use Rattle.form.specs.Text as Text
 use Rattle.form.specs.Text.{write, Bytes, Accepted}
+use Rattle.form.proofs.Utf8.{plain-pattern}
 use Rattle.encode.specs.Writing.{refuses, bytes, Writing, stopped, after, writing, encoding}
-use Rattle.encode.proofs.Given.{refuses-within, bytes-written}
-use Rattle.encode.proofs.Turns.{writing-on, follow, each-writing}
+use Rattle.encode.proofs.Sequences.{scalar-below, scalar-outside, surro-all}
+use Rattle.encode.proofs.Given.{refuses-within, bytes-surro, bytes-escape, bytes-other, bytes-written}
+use Rattle.encode.proofs.Turns.{writing-on, each-writing, refused-is, each-answer}
 
 -- ---- flags
-
-refused-is : (f room : ℕ) (l : List ℕ) → writer-refuses f ≡ true → encoding f room l ≡ stopped 4
-unfolding encoding
-refused-is f room l e = rw e refl
-
-accepted-is : (f room : ℕ) (l : List ℕ) → writer-refuses f ≡ false → encoding f room l ≡ writing plain (flagsOf f) room l
-unfolding encoding
-accepted-is f room l e = rw e refl
-
--- what holds where the flags are refused, and of each writing, holds of each answer
-module _ (f room : ℕ) (l : List ℕ) (P : Writing → Type 0) (refused : writer-refuses f ≡ true → P (stopped 4)) (w : writer-refuses f ≡ false → P (writing plain (flagsOf f) room l)) where
-  each-answer : P (encoding f room l)
-  unfolding encoding
-  each-answer = go (writer-refuses f) refl
-    where
-      go : (t : Bool) → writer-refuses f ≡ t → P (cond t (stopped 4) (writing plain (flagsOf f) room l))
-      go true e = refused e
-      go false e = w e
 
 -- the numbers of a writing are 0, 1 and 3
 number-below : (m : Flags) (l : List ℕ) (room : ℕ) → writing plain m room l .number < 4
@@ -92,6 +76,27 @@ module _ (f : ℕ) (h : f % 2 ≡ 0) where
   unfolding encoding
   last-idle room l = rw (last-refuses, same-writing (flagsOf (f + 1)) (flagsOf f) last-surro last-strict l room) refl
 
+-- ---- what a code that is not refused is written as
+
+-- DC80..DCFF without SURRO is the one byte code - DC00
+pub escape-byte : (m : Flags) (c : ℕ) → m .surro ≡ false → Escape c → bytes plain m c ≡ (c - 0xDC00) ∷ []
+escape-byte = bytes-escape
+
+-- any other surrogate, or all of them with SURRO, is three bytes by the 3-byte pattern
+pub surrogate-bytes : (m : Flags) (c : ℕ) → In (0xD800 to 0xDFFF) c → (m .surro ≡ true) ⊎ (Escape c → ⊥)
+    → bytes plain m c ≡ (0xE0 + c / 0x1000) ∷ (0x80 + c / 0x40 % 0x40) ∷ (0x80 + c % 0x40) ∷ []
+unfolding pattern
+surrogate-bytes m c h o =
+    ⊎-elim (bytes-surro m c) (bytes-other m c) o
+    ∙ surro-all c (omega arith)
+    ∙ rw (le-ltb c 0x80 (omega arith), le-ltb c 0x800 (omega arith), lt-ltb c 0x10000 (omega arith)) refl
+
+-- a scalar value is its well-formed sequence
+pub scalar-bytes : (m : Flags) (c : ℕ) → Scalar c → Codes plain (bytes plain m c) c
+scalar-bytes m c s =
+    plain-pattern (bytes plain m c) c .1
+    (s, bytes-other m c (λ h. omega (arith, scalar-outside c s (omega arith))) ∙ surro-all c (scalar-below c s))
+
 -- ---- room
 
 -- four bytes a code are room enough
@@ -119,6 +124,20 @@ within-codes f room l =
     each-answer f room l (λ W. W .consumed ≤ length l) (λ e. omega arith)
     (λ e. each-writing (flagsOf f) (λ room l W. W .consumed ≤ length l) (λ room. omega arith) (λ room c l e. omega arith) (λ room c l e h. omega arith)
     (λ room c l W e h ih. omega arith)
+    l room)
+
+-- the bytes of codes, end to end
+abbrev together : Flags → List ℕ → List ℕ
+together m [] = []
+together m (c ∷ l) = bytes plain m c ++ together m l
+
+-- no code is written in part: what is written are the bytes of the codes consumed
+pub whole-codes : (f room : ℕ) (l : List ℕ) → encoding f room l .written ≡ together (flagsOf f) (take (encoding f room l .consumed) l)
+unfolding stopped after
+whole-codes f room l =
+    each-answer f room l (λ W. W .written ≡ together (flagsOf f) (take (W .consumed) l)) (λ e. refl)
+    (λ e. each-writing (flagsOf f) (λ room l W. W .written ≡ together (flagsOf f) (take (W .consumed) l)) (λ room. refl) (λ room c l e. refl) (λ room c l e h. refl)
+    (λ room c l W e h ih. ap (λ (w : List ℕ). bytes plain (flagsOf f) c ++ w) ih)
     l room)
 
 bytes-append : (s t : List ℕ) → Bytes s → Bytes t → Bytes (s ++ t)
@@ -160,13 +179,6 @@ pub encoding-write : (l : List ℕ) (room : ℕ) → Accepted l → length (writ
 unfolding encoding writer-refuses
 encoding-write l room a h = writing-write l room a h
 
--- whatever the room, what is written is `write` of the codes consumed: the bytes of a code are never cut
-pub written-is : (l : List ℕ) (room : ℕ) → encoding 0 room l .written ≡ write plain (take (encoding 0 room l .consumed) l)
-unfolding encoding writer-refuses stopped after
-written-is =
-    each-writing (flagsOf 0) (λ room l W. W .written ≡ write plain (take (W .consumed) l)) (λ room. refl) (λ room c l e. refl) (λ room c l e h. refl)
-    (λ room c l W e h ih. rw (no-flags-bytes c, ih) refl)
-
 write-length : (l : List ℕ) → Accepted l → length (write plain l) ≤ length l * 4
 write-length [] a = omega arith
 write-length (c ∷ l) a =
@@ -182,47 +194,3 @@ accepted-iff l room h = (
       l room,
   λ a. ap (λ (W : Writing). W .number) (encoding-write l room a (omega (arith, write-length l a))),
 )
-
--- ---- a call that goes on where one stopped
-
-after-follow : (v w : List ℕ) (k : ℕ) (W : Writing) → after v (follow w k W) ≡ follow (v ++ w) (suc k) W
-unfolding after follow
-after-follow v w k W = let e : suc (k + W .consumed) ≡ suc k + W .consumed = omega arith in rw (e, append-assoc v w (W .written)) refl
-
-follow-none : (W : Writing) → follow [] 0 W ≡ W
-unfolding follow
-follow-none W = rw (zero-add (W .consumed)) refl
-
-resumed : (m : Flags) (b : ℕ) (l : List ℕ) (a : ℕ)
-    → writing plain m (length (writing plain m a l .written) + b) l
-    ≡ follow (writing plain m a l .written) (writing plain m a l .consumed) (writing plain m b (drop (writing plain m a l .consumed) l))
-unfolding stopped after
-resumed m b =
-    each-writing m
-    (λ a l W. writing plain m (length (W .written) + b) l ≡ follow (W .written) (W .consumed) (writing plain m b (drop (W .consumed) l)))
-    (λ a. stays [])
-    (λ a c l e. stays (c ∷ l))
-    (λ a c l e h. stays (c ∷ l))
-    (λ a c l W e h ih.
-    let v = bytes plain m c in
-    let n = length-append v (W .written) in
-    let k : length (v ++ W .written) + b - length v ≡ length (W .written) + b = omega arith in
-    writing-on m (length (v ++ W .written) + b) c l e (omega arith)
-    ∙ ap (λ (x : ℕ). after v (writing plain m x l)) k
-    ∙ ap (after v) ih
-    ∙ after-follow v (W .written) (W .consumed) (writing plain m b (drop (W .consumed) l)))
-  where
-    stays : (l : List ℕ) → writing plain m (0 + b) l ≡ follow [] 0 (writing plain m b l)
-    stays l = rw (zero-add b) (sym (follow-none (writing plain m b l)))
-
--- a call for the codes that are left, with b bytes more, completes what one call with the room of both writes
-pub resumes : (f a b : ℕ) (l : List ℕ)
-    → encoding f (length (encoding f a l .written) + b) l
-    ≡ follow (encoding f a l .written) (encoding f a l .consumed) (encoding f b (drop (encoding f a l .consumed) l))
-unfolding stopped
-resumes f a b l =
-    each-answer f a l (λ W. encoding f (length (W .written) + b) l ≡ follow (W .written) (W .consumed) (encoding f b (drop (W .consumed) l)))
-    (λ e. rw (refused-is f (0 + b) l e, refused-is f b l e) (sym (follow-none (stopped 4))))
-    (λ e.
-    let W = writing plain (flagsOf f) a l in
-    rw (accepted-is f (length (W .written) + b) l e, accepted-is f b (drop (W .consumed) l) e) (resumed (flagsOf f) b l a))

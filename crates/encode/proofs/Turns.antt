@@ -3,13 +3,15 @@ use mathlib.Core.Path.{_≡_, refl}
 use mathlib.Core.Bool.{Bool, true, false, cond}
 use mathlib.Core.List.{List, [], _∷_, _++_, append-assoc}
 use Prim.Native.Nat.{ℕ, suc, _+_, _-_, _≤_, _<_}
+use native.Mathlib.Nat.{zero-add}
 use native.Mathlib.Omega.{arith}
 use lib.Dec.{ltb}
 use lib.ListN.{length}
 use borrow.Author.Tests.{lt-ltb, le-ltb, ltb-true, ltb-false}
 use Rattle.flags.specs.declared.Flags.{Flags}
+use Rattle.flags.specs.Number.{flagsOf, writer-refuses}
 use Rattle.form.specs.Table.{plain}
-use Rattle.encode.specs.Writing.{refuses, bytes, Writing, stopped, after, writing}
+use Rattle.encode.specs.Writing.{refuses, bytes, Writing, stopped, after, writing, encoding}
 
 -- ---- the writing at one code
 
@@ -32,6 +34,14 @@ pub follow-after : (w v : List ℕ) (k : ℕ) (W : Writing) → follow w k (afte
 unfolding follow after
 follow-after w v k W = let e : k + suc (W .consumed) ≡ k + 1 + W .consumed = omega arith in rw (e, append-assoc w v (W .written)) refl
 
+pub after-follow : (v w : List ℕ) (k : ℕ) (W : Writing) → after v (follow w k W) ≡ follow (v ++ w) (suc k) W
+unfolding after follow
+after-follow v w k W = let e : suc (k + W .consumed) ≡ suc k + W .consumed = omega arith in rw (e, append-assoc v w (W .written)) refl
+
+pub follow-none : (W : Writing) → follow [] 0 W ≡ W
+unfolding follow
+follow-none W = rw (zero-add (W .consumed)) refl
+
 -- what holds at each way to stop, and at a code that is written where it holds of what comes after, holds of each writing
 module _ (m : Flags) (P : ℕ → List ℕ → Writing → Type 0)
     (ended : (room : ℕ) → P room [] (stopped 0))
@@ -52,3 +62,26 @@ module _ (m : Flags) (P : ℕ → List ℕ → Writing → Type 0)
         go true e u f p = refused room c l e
         go false e true f p = full room c l e (ltb-true room (length (bytes plain m c)) f)
         go false e false f p = turn room c l W e (ltb-false room (length (bytes plain m c)) f) p
+
+-- ---- the answer
+
+pub refused-is : (f room : ℕ) (l : List ℕ) → writer-refuses f ≡ true → encoding f room l ≡ stopped 4
+unfolding encoding
+refused-is f room l e = rw e refl
+
+pub accepted-is : (f room : ℕ) (l : List ℕ) → writer-refuses f ≡ false → encoding f room l ≡ writing plain (flagsOf f) room l
+unfolding encoding
+accepted-is f room l e = rw e refl
+
+-- what holds where the flags are refused, and of each writing, holds of each answer
+module _ (f room : ℕ) (l : List ℕ) (P : Writing → Type 0)
+    (refused : writer-refuses f ≡ true → P (stopped 4))
+    (accepted : writer-refuses f ≡ false → P (writing plain (flagsOf f) room l))
+  where
+    pub each-answer : P (encoding f room l)
+    unfolding encoding
+    each-answer = go (writer-refuses f) refl
+      where
+        go : (t : Bool) → writer-refuses f ≡ t → P (cond t (stopped 4) (writing plain (flagsOf f) room l))
+        go true e = refused e
+        go false e = accepted e

@@ -22,7 +22,7 @@ is-sequence f c w r e h = e ∙ ap codedOf (sym h)
 returns : tie.Need-returns
 returns c =
     let a = c .before .before .args in
-    is-sequence (a .form) (a .c) [] _ (c .no-bytes .ensures) (form-none (a .form) (a .c) (c .before .if1 .taken))
+    is-sequence (a .form) (a .c) [] _ (c .no-bytes .ensures) (form-none (a .form) (a .c) (omega arith))
 
 returns-2 : tie.Need-returns-2
 returns-2 c =

@@ -81,7 +81,7 @@ codes-again : tie.Need-codes-again Inv-codes μ-codes
 codes-again c =
     let w = with-room (turn c) in
     rw (c .before .before .before .put .ensures)
-    (reached-next (place w .codes .inv) (w .written .result) (is-code w) (is-given w) (turn c .before .before .before .if3 .left) (turn c .before .if4 .left))
+    (reached-next (place w .codes .inv) (w .written .result) (is-code w) (is-given w) (turn c .before .before .before .if3 .left) (omega arith))
 
 same-length : tie.Need-same-length Inv-codes μ-codes
 same-length c = c .before .codes .inv .same
@@ -105,7 +105,7 @@ returns-4 : tie.Need-returns-4 Inv-codes μ-codes
 returns-4 c =
     let w = c .before .before .before .before in
     let r = place w .codes .inv in
-    answered _ 1 (not-refused (place w)) r (reached-full r (w .written .result) (is-code w) (is-given w) (c .before .before .if3 .left) (c .if4 .taken))
+    answered _ 1 (not-refused (place w)) r (reached-full r (w .written .result) (is-code w) (is-given w) (c .before .before .if3 .left) (omega arith))
 
 pub encode-spec : {M : Type 1} → statement M
 encode-spec =
