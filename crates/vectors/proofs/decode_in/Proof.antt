@@ -6,7 +6,7 @@ use Rattle.vectors.proofs.decode_in.Statement.{statement}
 use Rattle.vectors.proofs.decode_in.Tie as tie
 
 slice-aggregate-decode : tie.Need-slice-aggregate-decode
-slice-aggregate-decode c = sym (length-take-le _ _ (c .before .least .ensures))
+slice-aggregate-decode c = sym (length-take-le _ _ (c .before .least .ensures .1))
 
 pub decode-in-spec : {M : Type 1} → statement M
 decode-in-spec =

@@ -6,7 +6,7 @@ use Rattle.vectors.proofs.encode_in.Statement.{statement}
 use Rattle.vectors.proofs.encode_in.Tie as tie
 
 slice-aggregate-encode : tie.Need-slice-aggregate-encode
-slice-aggregate-encode c = sym (length-take-le _ _ (c .before .least .ensures))
+slice-aggregate-encode c = sym (length-take-le _ _ (c .before .least .ensures .1))
 
 pub encode-in-spec : {M : Type 1} → statement M
 encode-in-spec =
