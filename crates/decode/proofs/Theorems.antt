@@ -1,7 +1,7 @@
 -- What the reader's definition gives, in the words of document 01. Assumes nothing.
-use mathlib.Core.Path.{_≡_, refl, sym, ap, _∙_, subst}
+use mathlib.Core.Path.{_≡_, refl, sym, ap, _∙_}
 use mathlib.Core.Logic.{_⊎_, inl, inr, ⊎-elim, _↔_}
-use mathlib.Core.Bool.{Bool, true, false, cond}
+use mathlib.Core.Bool.{Bool, true, false, cond, true≢false}
 use mathlib.Core.List.{List, [], _∷_, _++_, map}
 use Prim.Native.Nat.{ℕ, zero, suc, _+_, _≤_, _<_}
 use native.Mathlib.Nat.{zero-add}
@@ -107,10 +107,7 @@ pub refused-exactly : (f room : ℕ) (s : List ℕ) → (decoding f room s .numb
 unfolding stopped
 refused-exactly f room s =
     by-flags (λ R. (R .number ≡ 4) ↔ (reader-refuses f ≡ true)) f room s (λ e. (λ _. e, λ _. refl))
-    (λ e. (λ z. absurd (⊎-elim (λ h. omega (arith, h .0)) (λ h. omega (arith, h .0)) (reading-refuses (tableOf (flagsOf f)) (flagsOf f) room s)), λ z. absurd (not-both (sym z ∙ e))))
-  where
-    not-both : true ≡ false → ⊥
-    not-both z = subst T z tt
+    (λ e. (λ z. absurd (⊎-elim (λ h. omega (arith, h .0)) (λ h. omega (arith, h .0)) (reading-refuses (tableOf (flagsOf f)) (flagsOf f) room s)), λ z. absurd (true≢false (sym z ∙ e))))
 
 pub within : (f room : ℕ) (s : List ℕ) → (decoding f room s .consumed ≤ length s) × (length (decoding f room s .codes) ≤ room)
 unfolding stopped
@@ -141,7 +138,7 @@ waits-short f room s =
     (l, q, omega (arith, S .shorter t q .1, length-drop (reading F (flagsOf f) room s .consumed) s)))
 
 pub last-never-waits : (f room : ℕ) (s : List ℕ) → flagsOf f .last ≡ true → decoding f room s .number ≡ 2 → ⊥
-last-never-waits f room s e z = subst T (sym e ∙ waits-short f room s z .0) tt
+last-never-waits f room s e z = true≢false (sym e ∙ waits-short f room s z .0)
 
 -- number 3 is given with STRICT only, where a bad byte stands, and keeps the length of the maximal subpart that it begins
 pub refuses-strict : (f room : ℕ) (s : List ℕ) → decoding f room s .number ≡ 3

@@ -1,6 +1,6 @@
 -- What the writer gives for one code. Assumes nothing.
 use mathlib.Core.Path.{_≡_, refl, sym, ap, _∙_}
-use mathlib.Core.Bool.{Bool, true, false, _&&_, not, cond}
+use mathlib.Core.Bool.{Bool, true, false, _&&_, not, cond, true≢false}
 use mathlib.Core.List.{List, [], _∷_, _++_}
 use Prim.Native.Nat.{ℕ, _-_, _≤_, _<_}
 use native.Mathlib.Omega.{arith}
@@ -8,29 +8,17 @@ use native.Mathlib.Decide.{decLe}
 use lib.ListN.{length, take}
 use borrow.Author.Tests.{lt-ltb, le-ltb}
 use Rattle.flags.specs.declared.Flags.{Flags}
-use Rattle.form.specs.Table.{Range, _to_, plain, surro, surrogates, In, escapes, Escape}
+use Rattle.flags.proofs.Refused.{and-false}
+use Rattle.form.specs.Table.{_to_, plain, surro, surrogates, escapes, Escape}
 use Rattle.form.specs.Scan.{in?}
 use Rattle.form.specs.Text as Text
 use Rattle.form.specs.Text.{sequence}
-use Rattle.form.proofs.Rows.{in-true, true-in}
+use Rattle.form.proofs.Rows.{in-true, true-in, false-in}
+use Rattle.form.proofs.Utf8.{scalar-below}
+use Rattle.form.proofs.Sequences.{Kind, scalar, surrogate, beyond, kind, scalar-outside, plain-scalar, plain-surrogate, plain-none, surro-all, surro-none, writer-rows, One-to-four, pattern-bytes}
 use Rattle.encode.specs.declared.Coded.{Coded}
 use Rattle.encode.specs.Leaf.{codedOf}
 use Rattle.encode.specs.Writing.{refuses, bytes}
-use Rattle.encode.proofs.Sequences.{Kind, scalar, surrogate, beyond, kind, scalar-below, scalar-outside, plain-scalar, plain-surrogate, plain-none, surro-all, surro-none, writer-rows, One-to-four, pattern-bytes}
-
-true-false : {A : Type 0} → true ≡ false → A
-true-false e = let z : _≡_ {A = ℕ} 0 1 = ap (λ (t : Bool). cond t 0 1) e in absurd (omega arith)
-
-not-in : (r : Range) (n : ℕ) → (In r n → ⊥) → in? r n ≡ false
-not-in r n h = go (in? r n) refl
-  where
-    go : (t : Bool) → in? r n ≡ t → t ≡ false
-    go true e = absurd (h (in-true r n e))
-    go false e = refl
-
-and-false : (t : Bool) → (t && false) ≡ false
-and-false true = refl
-and-false false = refl
 
 -- ---- which codes are refused
 
@@ -50,7 +38,7 @@ refuses-within m c e = go (decLe c 0x10FFFF)
   where
     go : Dec (c ≤ 0x10FFFF) → c ≤ 0x10FFFF
     go (yes h) = h
-    go (no h) = true-false (sym (refuses-beyond m c (omega arith)) ∙ e)
+    go (no h) = absurd (true≢false (sym (refuses-beyond m c (omega arith)) ∙ e))
 
 -- ---- the bytes of a code, none where it is refused
 
@@ -80,7 +68,7 @@ pub bytes-other : (m : Flags) (c : ℕ) → (Escape c → ⊥) → bytes plain m
 unfolding bytes
 bytes-other m c h =
     either-way (λ w. w ≡ sequence surro c) (m .surro) (sequence (plain ++ (surrogates ∷ [])) c) (Text.bytes plain c) (writer-rows c)
-    (rw (not-in escapes c h) (writer-rows c))
+    (rw (false-in escapes c h) (writer-rows c))
 
 given-lax : (m : Flags) (c : ℕ) → refuses-surrogates m ≡ false → bytes plain m c ≡ sequence surro c → given m c ≡ sequence surro c
 given-lax m c e h = go (decLe c 0x10FFFF)
@@ -101,7 +89,7 @@ given-strict m c e f = go (kind c)
     go : Kind c → given m c ≡ sequence plain c
     go (scalar s) =
         let h = scalar-below c s in
-        given-bytes m c (refuses-low m c true strict h ∙ not-in (0xD800 to 0xDFFF) c (λ u. omega (arith, scalar-outside c s (u .0))))
+        given-bytes m c (refuses-low m c true strict h ∙ false-in (0xD800 to 0xDFFF) c (λ u. omega (arith, scalar-outside c s (u .0))))
         ∙ bytes-other m c (λ u. omega (arith, scalar-outside c s (omega arith)))
         ∙ surro-all c h
         ∙ sym (plain-scalar c s)

@@ -13,9 +13,10 @@ use Rattle.form.specs.Table.{_to_, plain, In, Codes, Scalar, Escape}
 use Rattle.form.specs.Pattern.{pattern}
 use Rattle.form.specs.Text as Text
 use Rattle.form.specs.Text.{write, Bytes, Accepted}
-use Rattle.form.proofs.Utf8.{plain-pattern}
+use Rattle.form.proofs.Utf8.{plain-pattern, scalar-below}
+use Rattle.form.proofs.Sequences.{scalar-outside, surro-all}
+use Rattle.form.proofs.Demand.{bytes-append}
 use Rattle.encode.specs.Writing.{refuses, bytes, Writing, stopped, after, writing, encoding}
-use Rattle.encode.proofs.Sequences.{scalar-below, scalar-outside, surro-all}
 use Rattle.encode.proofs.Given.{refuses-within, bytes-surro, bytes-escape, bytes-other, bytes-written}
 use Rattle.encode.proofs.Turns.{writing-on, each-writing, refused-is, each-answer}
 
@@ -139,10 +140,6 @@ whole-codes f room l =
     (λ e. each-writing (flagsOf f) (λ room l W. W .written ≡ together (flagsOf f) (take (W .consumed) l)) (λ room. refl) (λ room c l e. refl) (λ room c l e h. refl)
     (λ room c l W e h ih. ap (λ (w : List ℕ). bytes plain (flagsOf f) c ++ w) ih)
     l room)
-
-bytes-append : (s t : List ℕ) → Bytes s → Bytes t → Bytes (s ++ t)
-bytes-append [] t h g = g
-bytes-append (b ∷ s) t h g = (h .0, bytes-append s t (h .1) g)
 
 -- what is written are bytes
 pub writes-bytes : (f room : ℕ) (l : List ℕ) → Bytes (encoding f room l .written)

@@ -1,11 +1,10 @@
 -- The lines are so, by computation. Assumes nothing.
-use mathlib.Core.Path.{_≡_, refl}
+use mathlib.Core.Path.{refl}
 use mathlib.Core.List.{List, [], _∷_, map}
 use Prim.Native.Nat.{ℕ}
 use native.Mathlib.Omega.{arith}
 use Rattle.flags.specs.Number.{flagsOf, reader-refuses, writer-refuses}
 use Rattle.form.specs.Table.{plain, surro, WellFormed, Escape}
-use Rattle.form.specs.Scan.{well, scan}
 use Rattle.form.specs.Text.{All, unescape}
 use Rattle.form.proofs.Utf8.{plain-scans, plain-run, plain-demand3}
 use Rattle.decode.specs.Reading.{stopped, follow, decoding}

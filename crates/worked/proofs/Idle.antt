@@ -1,5 +1,5 @@
 -- The idle programs of "What a promise must not let through": each differs from the definition at an input named here, or fails demand 3. Assumes nothing.
-use mathlib.Core.Path.{_≡_, refl, sym, ap, _∙_}
+use mathlib.Core.Path.{_≡_, sym, ap, _∙_}
 use mathlib.Core.List.{List, [], _∷_, _++_}
 use Prim.Native.Nat.{ℕ, _≤_}
 use native.Mathlib.Omega.{arith}
@@ -7,7 +7,7 @@ use lib.ListN.{length, drop, getD}
 use Rattle.flags.specs.Number.{flagsOf, reader-refuses, writer-refuses}
 use Rattle.form.specs.Table.{plain}
 use Rattle.form.specs.Text.{Bytes}
-use Rattle.decode.specs.Reading.{Reading, stopped, follow, decoding}
+use Rattle.decode.specs.Reading.{stopped, follow, decoding}
 use Rattle.encode.specs.Writing as Writing
 use Rattle.encode.specs.Writing.{refuses, bytes, after, encoding}
 use Rattle.roundtrip.specs.Demand.{Writes, needs}

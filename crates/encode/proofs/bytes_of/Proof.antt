@@ -2,18 +2,29 @@
 use mathlib.Core.Path.{_≡_, sym, ap, _∙_}
 use mathlib.Core.Logic.{inl, inr}
 use mathlib.Core.List.{List, []}
-use Prim.Native.Nat.{ℕ}
+use Prim.Native.Nat.{ℕ, _<_}
 use native.Mathlib.Omega.{arith}
 use borrow.Author.Needs.{needs}
+use Rattle.form.specs.Table.{Scalar}
 use Rattle.form.specs.Pattern.{pattern}
 use Rattle.form.specs.Text.{sequence}
+use Rattle.form.proofs.Utf8.{scalar-below}
+use Rattle.form.proofs.Sequences.{plain-scalar, plain-none, plain-surrogate, surro-all, surro-none}
 use Rattle.classify.specs.declared.Form.{Form}
+use Rattle.classify.specs.declared.Form.the-variants.{Plain, Surro}
 use Rattle.classify.specs.Lead.{rowsOf}
 use Rattle.encode.specs.declared.Coded.{Coded}
 use Rattle.encode.specs.Leaf.{codedOf}
-use Rattle.encode.proofs.Sequences.{form-scalar, form-none, plain-surrogate, surro-all}
 use Rattle.encode.proofs.bytes_of.Statement.{statement}
 use Rattle.encode.proofs.bytes_of.Tie as tie
+
+form-scalar : (f : Form) (c : ℕ) → Scalar c → sequence (rowsOf f) c ≡ pattern c
+form-scalar Plain c s = plain-scalar c s
+form-scalar Surro c s = surro-all c (scalar-below c s)
+
+form-none : (f : Form) (c : ℕ) → 0x10FFFF < c → sequence (rowsOf f) c ≡ []
+form-none Plain c h = plain-none c (λ s. omega (arith, scalar-below c s))
+form-none Surro c h = surro-none c h
 
 -- a result that is the bytes of w, where the form's sequence is w
 is-sequence : (f : Form) (c : ℕ) (w : List ℕ) (r : Coded) → r ≡ codedOf w → sequence (rowsOf f) c ≡ w → r ≡ codedOf (sequence (rowsOf f) c)
