@@ -20,7 +20,7 @@ use Rattle.classify.specs.Stage.{left, stageOf}
 use Rattle.classify.proofs.Walk.{Walked, walk-first, walk-next, walk-part, walk-whole, walk-bad}
 use Rattle.decode.specs.declared.Decoded.{Decoded}
 use Rattle.decode.specs.Reading.{stop, convert, waits, convertItem, turn, stopped, follow, reading, tableOf, decoding, decodedOf}
-use Rattle.decode.proofs.Readings.{reading-stop, reading-full, reading-convert, follow-follow, follow-none}
+use Rattle.decode.proofs.Readings.{turn-found, reading-stop, reading-full, reading-convert, follow-follow, follow-none}
 
 -- the reader's promise, for a flag number f that it answers with the number q, `at` bytes consumed and n codes produced
 abbrev pub Answered : ℕ → List ℕ → List ℕ → List ℕ → ℕ → ℕ → ℕ → Type 0
@@ -51,7 +51,13 @@ reached-start F m s out =
       whole = rw (sub-zero (length out)) (sym (follow-none (reading F m (length out) s)));
     }
 
-module _ (F : Table.Form) (m : Flags) (s out₀ out : List ℕ) (at n : ℕ) (r : Reached F m s out₀ out at n) where
+-- what the flags say, as they were read from the number f
+pub record Given (f : ℕ) (F : Table.Form) (m : Flags) : Type 0 where
+  pub accepted : reader-refuses f ≡ false
+  pub flags : m ≡ flagsOf f
+  pub table : F ≡ tableOf m
+
+module _ {F : Table.Form} {m : Flags} {s out₀ out : List ℕ} {at n : ℕ} (r : Reached F m s out₀ out at n) where
   pub reached-next : (c k : ℕ) → turn F m (drop at s) ≡ convert c k → at + k ≤ length s → n < length out₀ → Reached F m s out₀ (set out n c) (at + k) (n + 1)
   reached-next c k e l h =
       record {
@@ -68,27 +74,23 @@ module _ (F : Table.Form) (m : Flags) (s out₀ out : List ℕ) (at n : ℕ) (r 
       fewer : length out₀ - n ≡ suc (length out₀ - (n + 1))
       fewer = omega arith
 
-  -- the reading stops at this place with the number q
-  abbrev pub Ends : ℕ → Type 0
-  Ends q = (k : ℕ) × (reading F m (length out₀ - n) (drop at s) ≡ stopped q k)
-
-  pub ends-stop : (q k : ℕ) → turn F m (drop at s) ≡ stop q k → Ends q
-  ends-stop q k e = (k, reading-stop F m (length out₀ - n) (drop at s) q k e)
-
-  pub ends-full : (c k : ℕ) → turn F m (drop at s) ≡ convert c k → n ≡ length out₀ → Ends 1
-  ends-full c k e h = let z : length out₀ - n ≡ 0 = omega arith in (0, rw z (reading-full F m (drop at s) c k e))
-
-  pub ends-used-up : at ≡ length s → Ends 0
-  ends-used-up h = ends-stop 0 0 (rw (h, drop-length s) refl)
-
-  -- then the reader's answer and buffer are the definition's
-  pub answered : (f q : ℕ) → reader-refuses f ≡ false → m ≡ flagsOf f → F ≡ tableOf m → Ends q → Answered f s out₀ out at n q
+  -- where the reading ends at this place, the answer and the buffer are the definition's
+  ended : {f : ℕ} → Given f F m → (q k : ℕ) → reading F m (length out₀ - n) (drop at s) ≡ stopped q k → Answered f s out₀ out at n q
   unfolding decoding decodedOf follow stopped
-  answered f q a g t (k, e) =
+  ended {f} g q k e =
       let d : decoding f (length out₀) s ≡ follow (take n out) at (stopped q k) =
-      rw (a, ← g, ← t) (r .whole ∙ ap (follow (take n out) at) e)
+      rw (g .accepted, ← g .flags, ← g .table) (r .whole ∙ ap (follow (take n out) at) e)
       in
       rw (d, append-nil, length-take-le n out (omega (arith, r .same)), add-zero, ← r .rest, take-append-drop n out) (refl, refl)
+
+  pub ends-stop : {f : ℕ} → Given f F m → (q k : ℕ) → turn F m (drop at s) ≡ stop q k → Answered f s out₀ out at n q
+  ends-stop g q k e = ended g q k (reading-stop F m (length out₀ - n) (drop at s) q k e)
+
+  pub ends-full : {f : ℕ} → Given f F m → (c k : ℕ) → turn F m (drop at s) ≡ convert c k → n ≡ length out₀ → Answered f s out₀ out at n 1
+  ends-full g c k e h = let z : length out₀ - n ≡ 0 = omega arith in ended g 1 0 (rw z (reading-full F m (drop at s) c k e))
+
+  pub ends-used-up : {f : ℕ} → Given f F m → at ≡ length s → Answered f s out₀ out at n 0
+  ends-used-up g h = ends-stop g 0 0 (rw (h, drop-length s) refl)
 
 -- ---- the inner loop: the bytes from `at` up to `end` have led to the stage
 
@@ -108,7 +110,12 @@ walk-begun f s at stage h b e =
       walked = rw one (walk-first f (drop at s) stage (omega (arith, length-drop at s)) (rw g b) (rw g e));
     }
 
-module _ (f : Form) (m : Flags) (s : List ℕ) (at end stage : ℕ) (w : Walking f s at end stage) where
+-- no well-formed sequence starts here, and the reader does not wait for more
+pub record NoneAt (f : Form) (m : Flags) (s : List ℕ) (at : ℕ) : Type 0 where
+  pub subpart : ℕ
+  pub turns : turn (rowsOf f) m (drop at s) ≡ convertItem m (stray (getD s at 0) subpart)
+
+module _ {f : Form} {s : List ℕ} {at end stage : ℕ} (w : Walking f s at end stage) (m : Flags) where
   some : at < length s
   some = omega (arith, w .begins, w .within)
 
@@ -131,7 +138,7 @@ module _ (f : Form) (m : Flags) (s : List ℕ) (at end stage : ℕ) (w : Walking
 
   by-found : (x : Found) → scan (rowsOf f) (drop at s) ≡ x
       → turn (rowsOf f) m (drop at s) ≡ cond (waits m x) (stop 2 0) (convertItem m (item x (getD s at 0) (drop (suc at) s)))
-  by-found x e = rw (← e, here) refl
+  by-found x e = ap (turn (rowsOf f) m) here ∙ turn-found (rowsOf f) m (getD s at 0) (drop (suc at) s) x (ap (scan (rowsOf f)) (sym here) ∙ e)
 
   pub turn-whole : stage ≡ 1 → turn (rowsOf f) m (drop at s) ≡ convert (bits (take (end - at) (drop at s))) (end - at)
   turn-whole h = by-found (well (bits (take (end - at) (drop at s))) (end - at)) (walk-whole f (drop at s) (end - at) stage (w .walked) h)
@@ -142,18 +149,15 @@ module _ (f : Form) (m : Flags) (s : List ℕ) (at end stage : ℕ) (w : Walking
   pub turn-waits : 1 < stage → end ≡ length s → m .last ≡ false → turn (rowsOf f) m (drop at s) ≡ stop 2 0
   turn-waits h l t = by-found part (found-part h l) ∙ rw t refl
 
-  -- no well-formed sequence starts here, and the reader does not wait for more
-  abbrev pub None : Type 0
-  None = (k : ℕ) × (turn (rowsOf f) m (drop at s) ≡ convertItem m (stray (getD s at 0) k))
+  pub none-partial : 1 < stage → end ≡ length s → m .last ≡ true → NoneAt f m s at
+  none-partial h l t = record { subpart = suc (length (drop (suc at) s)); turns = by-found part (found-part h l) ∙ rw t refl }
 
-  pub none-partial : 1 < stage → end ≡ length s → m .last ≡ true → None
-  none-partial h l t = (suc (length (drop (suc at) s)), by-found part (found-part h l) ∙ rw t refl)
+  pub none-bad : stage ≡ 0 → NoneAt f m s at
+  none-bad h = record { subpart = max 1 (end - at - 1); turns = by-found (bad (end - at - 1)) (walk-bad f (drop at s) (end - at) stage (w .walked) h) }
 
-  pub none-bad : stage ≡ 0 → None
-  none-bad h = (max 1 (end - at - 1), by-found (bad (end - at - 1)) (walk-bad f (drop at s) (end - at) stage (w .walked) h))
+pub none-strict : {f : Form} {m : Flags} {s : List ℕ} {at : ℕ} → NoneAt f m s at → m .strict ≡ true → (k : ℕ) × (turn (rowsOf f) m (drop at s) ≡ stop 3 k)
+none-strict h t = (h .subpart, h .turns ∙ rw t refl)
 
-  pub none-strict : m .strict ≡ true → None → (k : ℕ) × (turn (rowsOf f) m (drop at s) ≡ stop 3 k)
-  none-strict t (k, e) = (k, e ∙ rw t refl)
-
-  pub none-lax : m .strict ≡ false → None → turn (rowsOf f) m (drop at s) ≡ convert (cond (m .show) 0xFFFD (escape (getD s at 0))) 1
-  none-lax t (k, e) = e ∙ rw t refl
+pub none-lax : {f : Form} {m : Flags} {s : List ℕ} {at : ℕ} → NoneAt f m s at → m .strict ≡ false
+    → turn (rowsOf f) m (drop at s) ≡ convert (cond (m .show) 0xFFFD (escape (getD s at 0))) 1
+none-lax h t = h .turns ∙ rw t refl
