@@ -76,7 +76,11 @@ turn-says F m (b ∷ s) = by (scan F (b ∷ s)) refl
 pub turn-stops : (F : Form) (m : Flags) (s : List ℕ) (q k : ℕ) → turn F m s ≡ stop q k → Says F m s (stop q k)
 turn-stops F m s q k e = rw e at (turn-says F m s)
 
--- an item lies within the bytes
+-- an item is converted where there are bytes, and lies within them
+pub turn-some : (F : Form) (m : Flags) (s : List ℕ) (c k : ℕ) → turn F m s ≡ convert c k → 0 < length s
+turn-some F m [] c k e = let z : _≡_ {A = ℕ} 0 1 = cc in absurd (omega arith)
+turn-some F m (b ∷ s) c k e = omega arith
+
 pub turn-within : (F : Form) (m : Flags) (s : List ℕ) (c k : ℕ) → turn F m s ≡ convert c k → k ≤ length s
 turn-within F m s c k e = ⊎-elim (λ h. scan-well F s c k h .1) (λ (o, x, (b, y, (n, (t, g, z)))). rw (o, g) (omega arith)) (rw e at (turn-says F m s))
 

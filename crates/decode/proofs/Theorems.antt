@@ -20,7 +20,7 @@ use Rattle.form.proofs.Laws.{Scans}
 use Rattle.form.proofs.Items.{items-skip, span-more, span-within}
 use Rattle.form.proofs.Utf8.{plain-scans, surro-scans, plain-regular}
 use Rattle.decode.specs.Reading.{stop, convert, turn, Reading, stopped, follow, reading, tableOf, decoding}
-use Rattle.decode.proofs.Readings.{reading-stop, reading-convert, follow-follow, follow-none, turn-found, Stray, turn-stops, turn-within, by-places}
+use Rattle.decode.proofs.Readings.{reading-stop, reading-convert, follow-follow, follow-none, turn-found, Stray, turn-stops, turn-some, turn-within, by-places}
 
 -- a reading and, where it stopped for room, another that comes after it
 unfoldable pub resume : Reading → Reading → Reading
@@ -43,6 +43,25 @@ module _ (F : Form) (m : Flags) where
   reading-within =
       by-places F m (λ room s R. (R .consumed ≤ length s) × (length (R .codes) ≤ room)) (λ room s q k e. (omega arith, omega arith)) (λ s c k e. (omega arith, omega arith))
       (λ room s c k e h. (omega (arith, h .0, length-drop k s, turn-within F m s c k e), omega (arith, h .1)))
+
+  stops-not-full : (s : List ℕ) (q k : ℕ) → turn F m s ≡ stop q k → q ≡ 1 → ⊥
+  stops-not-full s q k e z = ⊎-elim (λ h. omega (arith, h .0)) (λ h. ⊎-elim (λ g. omega (arith, g .0)) (λ g. omega (arith, g .0)) h) (turn-stops F m s q k e)
+
+  -- number 0: every byte is consumed
+  pub reading-used-up : (room : ℕ) (s : List ℕ) → reading F m room s .number ≡ 0 → reading F m room s .consumed ≡ length s
+  unfolding stopped follow
+  reading-used-up =
+      by-places F m (λ room s R. R .number ≡ 0 → R .consumed ≡ length s)
+      (λ room s q k e z. ⊎-elim (λ h. sym (ap length (h .2))) (λ h. absurd (⊎-elim (λ g. omega (arith, g .0, z)) (λ g. omega (arith, g .0, z)) h)) (turn-stops F m s q k e))
+      (λ s c k e z. absurd (omega arith)) (λ room s c k e h z. omega (arith, h z, length-drop k s, turn-within F m s c k e))
+
+  -- number 1: the room is full, and bytes are left
+  pub reading-full-up : (room : ℕ) (s : List ℕ) → reading F m room s .number ≡ 1
+      → (length (reading F m room s .codes) ≡ room) × (reading F m room s .consumed < length s)
+  unfolding stopped follow
+  reading-full-up =
+      by-places F m (λ room s R. R .number ≡ 1 → (length (R .codes) ≡ room) × (R .consumed < length s)) (λ room s q k e z. absurd (stops-not-full s q k e z))
+      (λ s c k e z. (refl, turn-some F m s c k e)) (λ room s c k e h z. let (l, n) = h z in (omega (arith, l), omega (arith, n, length-drop k s)))
 
   -- number 2: LAST is absent, and what is unread is a partial sequence
   pub reading-waits : (room : ℕ) (s : List ℕ) → reading F m room s .number ≡ 2
@@ -78,9 +97,6 @@ module _ (F : Form) (m : Flags) where
       rw n (reading-convert F m (room + b) s c k e) ∙ ap (follow (c ∷ []) k) h
       ∙ follow-resume (c ∷ []) k R (reading F m b (drop (R .consumed) (drop k s)))
       ∙ ap (λ (t : List ℕ). resume (follow (c ∷ []) k R) (reading F m b t)) (drop-drop (R .consumed) k s)) a
-    where
-      stops-not-full : (s : List ℕ) (q k : ℕ) → turn F m s ≡ stop q k → q ≡ 1 → ⊥
-      stops-not-full s q k e z = ⊎-elim (λ h. omega (arith, h .0)) (λ h. ⊎-elim (λ g. omega (arith, g .0)) (λ g. omega (arith, g .0)) h) (turn-stops F m s q k e)
 
 -- ---- for a flag number
 
@@ -121,6 +137,19 @@ table-scans m = go (m .surro)
     go : (t : Bool) → Scans (cond t surro plain) 4
     go true = surro-scans
     go false = plain-scans
+
+-- number 0 is given where every byte is consumed
+pub used-up : (f room : ℕ) (s : List ℕ) → decoding f room s .number ≡ 0 → decoding f room s .consumed ≡ length s
+unfolding stopped
+used-up f room s =
+    by-flags (λ R. R .number ≡ 0 → R .consumed ≡ length s) f room s (λ e z. absurd (omega arith)) (λ e. reading-used-up (tableOf (flagsOf f)) (flagsOf f) room s)
+
+-- number 1 is given where the room is full and bytes are left
+pub full-up : (f room : ℕ) (s : List ℕ) → decoding f room s .number ≡ 1 → (length (decoding f room s .codes) ≡ room) × (decoding f room s .consumed < length s)
+unfolding stopped
+full-up f room s =
+    by-flags (λ R. R .number ≡ 1 → (length (R .codes) ≡ room) × (R .consumed < length s)) f room s (λ e z. absurd (omega arith))
+    (λ e. reading-full-up (tableOf (flagsOf f)) (flagsOf f) room s)
 
 -- number 2 is given without LAST only, and leaves a partial sequence unread, at most three bytes
 pub waits-short : (f room : ℕ) (s : List ℕ) → decoding f room s .number ≡ 2

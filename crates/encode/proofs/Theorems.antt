@@ -5,7 +5,7 @@ use mathlib.Core.Bool.{true, false}
 use mathlib.Core.List.{List, [], _∷_, _++_}
 use Prim.Native.Nat.{ℕ, _+_, _-_, _*_, _/_, _%_, _≤_, _<_}
 use native.Mathlib.Omega.{arith}
-use lib.ListN.{length, take, length-append}
+use lib.ListN.{length, getD, take, length-append}
 use borrow.Author.Tests.{lt-ltb, le-ltb}
 use Rattle.flags.specs.declared.Flags.{Flags}
 use Rattle.flags.specs.Number.{flagsOf, writer-refuses}
@@ -126,6 +126,46 @@ within-codes f room l =
     (λ e. each-writing (flagsOf f) (λ room l W. W .consumed ≤ length l) (λ room. omega arith) (λ room c l e. omega arith) (λ room c l e h. omega arith)
     (λ room c l W e h ih. omega arith)
     l room)
+
+-- ---- where the writer stops
+
+-- number 0 is given where every code is consumed
+pub used-up : (f room : ℕ) (l : List ℕ) → encoding f room l .number ≡ 0 → encoding f room l .consumed ≡ length l
+unfolding stopped after
+used-up f room l =
+    each-answer f room l (λ W. W .number ≡ 0 → W .consumed ≡ length l) (λ e z. absurd (omega arith))
+    (λ e. each-writing (flagsOf f) (λ room l W. W .number ≡ 0 → W .consumed ≡ length l) (λ room z. refl) (λ room c l e z. absurd (omega arith))
+    (λ room c l e h z. absurd (omega arith))
+    (λ room c l W e h ih z. omega (arith, ih z))
+    l room)
+
+-- number 3 at a code that is refused
+pub refused-code : (f room : ℕ) (l : List ℕ) → encoding f room l .number ≡ 3
+    → (encoding f room l .consumed < length l) × (refuses (flagsOf f) (getD l (encoding f room l .consumed) 0) ≡ true)
+unfolding stopped after
+refused-code f room l =
+    each-answer f room l (λ W. W .number ≡ 3 → (W .consumed < length l) × (refuses (flagsOf f) (getD l (W .consumed) 0) ≡ true)) (λ e z. absurd (omega arith))
+    (λ e. each-writing (flagsOf f) (λ room l W. W .number ≡ 3 → (W .consumed < length l) × (refuses (flagsOf f) (getD l (W .consumed) 0) ≡ true))
+    (λ room z. absurd (omega arith))
+    (λ room c l e z. (omega arith, e))
+    (λ room c l e h z. absurd (omega arith))
+    (λ room c l W e h ih z. (omega (arith, ih z .0), ih z .1))
+    l room)
+
+-- number 1 at a code that needs more than the free bytes
+pub full-up : (f room : ℕ) (l : List ℕ) → encoding f room l .number ≡ 1
+    → (encoding f room l .consumed < length l)
+    × (room < length (encoding f room l .written) + length (bytes plain (flagsOf f) (getD l (encoding f room l .consumed) 0)))
+unfolding stopped after
+full-up f room l =
+    each-answer f room l (λ W. W .number ≡ 1 → Short room l W) (λ e z. absurd (omega arith))
+    (λ e. each-writing (flagsOf f) (λ room l W. W .number ≡ 1 → Short room l W) (λ room z. absurd (omega arith)) (λ room c l e z. absurd (omega arith))
+    (λ room c l e h z. (omega arith, omega arith))
+    (λ room c l W e h ih z. (omega (arith, ih z .0), omega (arith, ih z .1, length-append (bytes plain (flagsOf f) c) (W .written))))
+    l room)
+  where
+    Short : ℕ → List ℕ → Writing → Type 0
+    Short room l W = (W .consumed < length l) × (room < length (W .written) + length (bytes plain (flagsOf f) (getD l (W .consumed) 0)))
 
 -- the bytes of codes, end to end
 abbrev together : Flags → List ℕ → List ℕ
