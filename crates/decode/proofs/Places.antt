@@ -19,7 +19,7 @@ use Rattle.classify.specs.Lead.{rowsOf}
 use Rattle.classify.specs.Stage.{left, stageOf}
 use Rattle.classify.proofs.Walk.{Walked, walk-first, walk-next, walk-part, walk-whole, walk-bad}
 use Rattle.decode.specs.declared.Decoded.{Decoded}
-use Rattle.decode.specs.Reading.{stop, convert, waits, convertItem, turn, stopped, follow, reading, tableOf, decoding, decodedOf}
+use Rattle.decode.specs.Reading.{stop, convert, waits, turnOf, turn, stopped, follow, reading, tableOf, decoding, decodedOf}
 use Rattle.decode.proofs.Readings.{turn-found, reading-stop, reading-full, reading-convert, follow-follow, follow-none}
 
 -- the reader's promise, for a flag number f that it answers with the number q, `at` bytes consumed and n codes produced
@@ -113,7 +113,7 @@ walk-begun f s at stage h b e =
 -- no well-formed sequence starts here, and the reader does not wait for more
 pub record NoneAt (f : Form) (m : Flags) (s : List ℕ) (at : ℕ) : Type 0 where
   pub subpart : ℕ
-  pub turns : turn (rowsOf f) m (drop at s) ≡ convertItem m (stray (getD s at 0) subpart)
+  pub turns : turn (rowsOf f) m (drop at s) ≡ turnOf m (stray (getD s at 0) subpart)
 
 module _ {f : Form} {s : List ℕ} {at end stage : ℕ} (w : Walking f s at end stage) (m : Flags) where
   some : at < length s
@@ -137,7 +137,7 @@ module _ {f : Form} {s : List ℕ} {at end stage : ℕ} (w : Walking f s at end 
       }
 
   by-found : (x : Found) → scan (rowsOf f) (drop at s) ≡ x
-      → turn (rowsOf f) m (drop at s) ≡ cond (waits m x) (stop 2 0) (convertItem m (item x (getD s at 0) (drop (suc at) s)))
+      → turn (rowsOf f) m (drop at s) ≡ cond (waits m x) (stop 2 0) (turnOf m (item x (getD s at 0) (drop (suc at) s)))
   by-found x e = ap (turn (rowsOf f) m) here ∙ turn-found (rowsOf f) m (getD s at 0) (drop (suc at) s) x (ap (scan (rowsOf f)) (sym here) ∙ e)
 
   pub turn-whole : stage ≡ 1 → turn (rowsOf f) m (drop at s) ≡ convert (bits (take (end - at) (drop at s))) (end - at)

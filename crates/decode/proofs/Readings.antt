@@ -12,7 +12,7 @@ use Rattle.form.specs.Table.{Form}
 use Rattle.form.specs.Scan.{Found, well, part, bad, scan}
 use Rattle.form.specs.Text.{stray, escape, item}
 use Rattle.form.proofs.Scan.{scan-well}
-use Rattle.decode.specs.Reading.{Turn, stop, convert, waits, convertItem, turn, Reading, stopped, follow, reading}
+use Rattle.decode.specs.Reading.{Turn, stop, convert, waits, turnOf, turn, Reading, stopped, follow, reading}
 
 pub reading-stop : (F : Form) (m : Flags) (room : ℕ) (s : List ℕ) (q k : ℕ) → turn F m s ≡ stop q k → reading F m room s ≡ stopped q k
 reading-stop F m zero s q k e = rw e refl
@@ -37,7 +37,7 @@ follow-none R = λ i. record { number = R .number; consumed = zero-add (R .consu
 -- ---- what a turn says of its place
 
 pub turn-found : (F : Form) (m : Flags) (b : ℕ) (s : List ℕ) (x : Found) → scan F (b ∷ s) ≡ x
-    → turn F m (b ∷ s) ≡ cond (waits m x) (stop 2 0) (convertItem m (item x b s))
+    → turn F m (b ∷ s) ≡ cond (waits m x) (stop 2 0) (turnOf m (item x b s))
 turn-found F m b s x e = rw (← e) refl
 
 -- a bad byte stands at the front, and the maximal subpart that it begins has n bytes
@@ -57,7 +57,7 @@ pub turn-says : (F : Form) (m : Flags) (s : List ℕ) → Says F m s (turn F m s
 turn-says F m [] = inl (refl, refl, refl)
 turn-says F m (b ∷ s) = by (scan F (b ∷ s)) refl
   where
-    says : (n : ℕ) → Stray F (b ∷ s) b n → Says F m (b ∷ s) (convertItem m (stray b n))
+    says : (n : ℕ) → Stray F (b ∷ s) b n → Says F m (b ∷ s) (turnOf m (stray b n))
     says n h = go (m .strict) refl
       where
         go : (t : Bool) → m .strict ≡ t → Says F m (b ∷ s) (cond t (stop 3 n) (convert (cond (m .show) 0xFFFD (escape b)) 1))
@@ -69,7 +69,7 @@ turn-says F m (b ∷ s) = by (scan F (b ∷ s)) refl
     by (bad n) e = rw (turn-found F m b s (bad n) e) (says (max 1 n) (s, refl, rw e refl))
     by part e = rw (turn-found F m b s part e) (ends (m .last) refl)
       where
-        ends : (t : Bool) → m .last ≡ t → Says F m (b ∷ s) (cond (not t) (stop 2 0) (convertItem m (stray b (suc (length s)))))
+        ends : (t : Bool) → m .last ≡ t → Says F m (b ∷ s) (cond (not t) (stop 2 0) (turnOf m (stray b (suc (length s)))))
         ends true h = says (suc (length s)) (s, refl, rw e refl)
         ends false h = inr (inl (refl, refl, omega arith, e, h))
 
