@@ -109,6 +109,11 @@ pub refused-nothing : (f room : ℕ) (s : List ℕ) → reader-refuses f ≡ tru
 unfolding decoding
 refused-nothing f room s e = rw e refl
 
+-- and the buffer as at entry
+pub refused-untouched : (f : ℕ) (s d : List ℕ) → reader-refuses f ≡ true → decoding f (length d) s .codes ++ drop (length (decoding f (length d) s .codes)) d ≡ d
+unfolding stopped
+refused-untouched f s d e = rw (refused-nothing f (length d) s e) refl
+
 -- a law of `decoding` from those of a refusal and of a reading
 by-flags : (P : Reading → Type 0) (f room : ℕ) (s : List ℕ) → (reader-refuses f ≡ true → P (stopped 4 0))
     → (reader-refuses f ≡ false → P (reading (tableOf (flagsOf f)) (flagsOf f) room s)) → P (decoding f room s)
