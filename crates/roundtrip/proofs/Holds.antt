@@ -8,7 +8,7 @@ use lib.ListN.{length, length-append}
 use Rattle.form.specs.Table.{plain, Scalar, Escape}
 use Rattle.form.specs.Text.{bytes, read, write, All, Bytes, Accepted}
 use Rattle.form.proofs.Demand.{write-bytes}
-use Rattle.form.proofs.Utf8.{plain-regular, plain-demand3}
+use Rattle.form.proofs.Utf8.{plain-regular, plain-demand3, scalar-below}
 use Rattle.decode.proofs.Theorems.{reads-all}
 use Rattle.encode.proofs.Theorems.{encoding-write}
 use Rattle.roundtrip.specs.Demand.{Reads, Writes, needs, CleanList, Demand3}
@@ -21,9 +21,7 @@ clean-accepted : (l : List ℕ) → CleanList l → Accepted l
 clean-accepted l h = go l (h .0)
   where
     below : (c : ℕ) → Scalar c ⊎ Escape c → c ≤ 0x10FFFF
-    below c (inl (inl h)) = omega arith
-    below c (inl (inr (inl h))) = omega arith
-    below c (inl (inr (inr h))) = absurd h
+    below c (inl h) = scalar-below c h
     below c (inr h) = omega arith
 
     go : (l : List ℕ) → All (λ c. Scalar c ⊎ Escape c) l → Accepted l
