@@ -1,6 +1,6 @@
 -- What the writer gives for one code. Assumes nothing.
 use mathlib.Core.Path.{_≡_, refl, sym, ap, _∙_}
-use mathlib.Core.Bool.{Bool, true, false, _&&_, not, cond, true≢false}
+use mathlib.Core.Bool.{Bool, true, false, _&&_, not, cond, true≢false, and-false}
 use mathlib.Core.List.{List, [], _∷_, _++_}
 use Prim.Native.Nat.{ℕ, _-_, _≤_, _<_}
 use native.Mathlib.Omega.{arith}
@@ -8,7 +8,6 @@ use native.Mathlib.Decide.{decLe}
 use lib.ListN.{length, take}
 use borrow.Author.Tests.{lt-ltb, le-ltb}
 use Rattle.flags.specs.declared.Flags.{Flags}
-use Rattle.flags.proofs.Refused.{and-false}
 use Rattle.form.specs.Table.{_to_, plain, surro, surrogates, escapes, Escape}
 use Rattle.form.specs.Scan.{in?}
 use Rattle.form.specs.Text as Text

@@ -1,5 +1,5 @@
--- Demand 3, on the two whole-buffer calls. `decoding` and `encoding` are what the promises of decode and encode cite; the other words are those of
--- form's Text. Assumes nothing.
+-- Demand 3, on the two whole-buffer calls. `decoding` and `encoding` are what the promises of decode and encode cite; every other word is defined
+-- here or in form. Assumes nothing.
 use mathlib.Core.Path.{_≡_}
 use mathlib.Core.Logic.{_↔_}
 use mathlib.Core.List.{List, [], _∷_}

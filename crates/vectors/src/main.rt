@@ -4,7 +4,7 @@
 //     read FLAGS ROOM BYTES = NUMBER CONSUMED CODES
 //     write FLAGS ROOM CODES = NUMBER CONSUMED BYTES
 //
-// It tells each vector that comes out otherwise, and at the end how many there were.
+// It tells each vector that comes out otherwise and each line that is no vector, and at the end how many vectors there were.
 use decode::Decoded;
 use encode::Encoded;
 use libc::STDIN_FILENO;
@@ -37,14 +37,24 @@ fn until(s: &[u8], from: usize, b: u8) -> usize
     i
 }
 
+// The value of a digit, or 16.
 fn digit(b: u8) -> u8
-    ensures { λ r. ⌜ r ≤ 15 ⌝ }
+    ensures { λ r. ⌜ r ≤ 16 ⌝ }
 {
     match b {
         b'0'..=b'9' => b - b'0',
         b'A'..=b'F' => b - b'A' + 10,
-        _ => 0,
+        _ => 16,
     }
+}
+
+fn all_digits(s: &[u8], base: u8) -> bool {
+    for i in 0..s.len() {
+        if base <= digit(s[i]) {
+            return false;
+        }
+    }
+    true
 }
 
 // The word of number k of a line, from 0.
@@ -70,6 +80,70 @@ fn word_at(s: &[u8], k: usize) -> Word
     }
 }
 
+fn is_none(s: &[u8]) -> bool {
+    if s.len() == 1 {
+        return s[0] == b'-';
+    }
+    false
+}
+
+fn is_decimal(s: &[u8]) -> bool {
+    if s.len() == 0 {
+        return false;
+    }
+    if 10 < s.len() {
+        return false;
+    }
+    all_digits(s, 10)
+}
+
+// At most 32 bytes, two digits each.
+fn is_bytes(s: &[u8]) -> bool {
+    if is_none(s) {
+        return true;
+    }
+    if s.len() == 0 {
+        return false;
+    }
+    if 64 < s.len() {
+        return false;
+    }
+    if s.len() % 2 == 1 {
+        return false;
+    }
+    all_digits(s, 16)
+}
+
+fn is_code(s: &[u8]) -> bool {
+    if s.len() == 0 {
+        return false;
+    }
+    if 8 < s.len() {
+        return false;
+    }
+    all_digits(s, 16)
+}
+
+// At most 16 codes, with commas between them.
+fn is_codes(s: &[u8]) -> bool {
+    if is_none(s) {
+        return true;
+    }
+    let most: usize = 16;
+    let mut from: usize = 0;
+    for _i in 0..most {
+        let end = until(s, from, b',');
+        if !is_code(&s[from..end]) {
+            return false;
+        }
+        if end == s.len() {
+            return true;
+        }
+        from = end + 1;
+    }
+    false
+}
+
 fn ten_times(n: u64, b: u8) -> u64 {
     n % 1000000000 * 10 + digit(b) as u64
 }
@@ -83,7 +157,7 @@ fn decimal(s: &[u8]) -> u64 {
 }
 
 fn sixteen_times(n: u32, b: u8) -> u32 {
-    n % 0x10000000 * 16 + digit(b) as u32
+    n % 0x10000000 * 16 + (digit(b) % 16) as u32
 }
 
 fn hexadecimal(s: &[u8]) -> u32 {
@@ -95,7 +169,7 @@ fn hexadecimal(s: &[u8]) -> u32 {
 }
 
 fn byte(high: u8, low: u8) -> u8 {
-    digit(high) * 16 + digit(low)
+    digit(high) % 16 * 16 + digit(low) % 16
 }
 
 // The bytes of hexadecimal pairs, as many as fit.
@@ -127,6 +201,34 @@ fn codes_of(s: &[u8], out: &mut [u32]) -> usize
     n
 }
 
+fn is_word_at(s: &[u8], k: usize, word: &[u8]) -> bool {
+    let w = word_at(s, k);
+    let from = w.from;
+    let to = w.to;
+    check::same(&s[from..to], word)
+}
+
+fn is_decimal_at(s: &[u8], k: usize) -> bool {
+    let w = word_at(s, k);
+    let from = w.from;
+    let to = w.to;
+    is_decimal(&s[from..to])
+}
+
+fn is_bytes_at(s: &[u8], k: usize) -> bool {
+    let w = word_at(s, k);
+    let from = w.from;
+    let to = w.to;
+    is_bytes(&s[from..to])
+}
+
+fn is_codes_at(s: &[u8], k: usize) -> bool {
+    let w = word_at(s, k);
+    let from = w.from;
+    let to = w.to;
+    is_codes(&s[from..to])
+}
+
 fn number_at(s: &[u8], k: usize) -> u64 {
     let w = word_at(s, k);
     let from = w.from;
@@ -141,13 +243,6 @@ fn bytes_at(s: &[u8], k: usize, out: &mut [u8]) -> usize
     let from = w.from;
     let to = w.to;
     bytes_of(&s[from..to], out)
-}
-
-fn is_none(s: &[u8]) -> bool {
-    if s.len() == 1 {
-        return s[0] == b'-';
-    }
-    false
 }
 
 fn codes_at(s: &[u8], k: usize, out: &mut [u32]) -> usize
@@ -217,13 +312,13 @@ fn reads(
     room: usize,
     flags: u32,
     s: &[u8],
-    number: u8,
+    number: u64,
     consumed: usize,
     codes: &[u32],
 ) {
     let mut buffer = [0xEEEEEEEEu32; 16];
     let r = decode_in(&mut buffer, room, s, flags);
-    if r.number != number {
+    if r.number as u64 != number {
         differs(b"number", vector);
     }
     if r.consumed != consumed {
@@ -235,24 +330,41 @@ fn reads(
     if !codes_in(&buffer, codes) {
         differs(b"codes", vector);
     }
-    rest_in(vector, &mut buffer, room, flags, s, number, consumed);
+    let mut again = [0xEEEEEEEEu32; 16];
+    rest_in(
+        vector,
+        &mut again,
+        room,
+        flags,
+        s,
+        number,
+        consumed,
+        codes.len(),
+    );
+    if !codes_in(&again, codes) {
+        differs(b"the companion's codes", vector);
+    }
 }
 
-// The companion: the number again, and the rest.
+// The companion: the number and the count again, and the rest.
 fn rest_in(
     vector: &[u8],
     buffer: &mut [u32],
     room: usize,
     flags: u32,
     s: &[u8],
-    number: u8,
+    number: u64,
     consumed: usize,
+    count: usize,
 ) {
     let most = least(room, buffer.len());
     let mut told: u8 = 0xEE;
-    let mut produced: usize = 0;
+    let mut produced: usize = 0xEE;
     let rest = decode::decode_rest(s, &mut buffer[..most], flags, &mut told, &mut produced);
-    if told != number {
+    if produced != count {
+        differs(b"the companion's count", vector);
+    }
+    if told as u64 != number {
         differs(b"the companion's number", vector);
     }
     let at = least(consumed, s.len());
@@ -267,13 +379,13 @@ fn writes(
     room: usize,
     flags: u32,
     l: &[u32],
-    number: u8,
+    number: u64,
     consumed: usize,
     bytes: &[u8],
 ) {
     let mut buffer = [0xEEu8; 32];
     let r = encode_in(&mut buffer, room, l, flags);
-    if r.number != number {
+    if r.number as u64 != number {
         differs(b"number", vector);
     }
     if r.consumed != consumed {
@@ -291,7 +403,7 @@ fn read_vector(s: &[u8], bytes: &mut [u8], codes: &mut [u32]) {
     let flags = (number_at(s, 1) % 0x100000000) as u32;
     let room = number_at(s, 2) as usize;
     let n = bytes_at(s, 3, bytes);
-    let number = (number_at(s, 5) % 0x100) as u8;
+    let number = number_at(s, 5);
     let consumed = number_at(s, 6) as usize;
     let m = codes_at(s, 7, codes);
     reads(s, room, flags, &bytes[..n], number, consumed, &codes[..m]);
@@ -301,20 +413,62 @@ fn write_vector(s: &[u8], codes: &mut [u32], bytes: &mut [u8]) {
     let flags = (number_at(s, 1) % 0x100000000) as u32;
     let room = number_at(s, 2) as usize;
     let n = codes_at(s, 3, codes);
-    let number = (number_at(s, 5) % 0x100) as u8;
+    let number = number_at(s, 5);
     let consumed = number_at(s, 6) as usize;
     let m = bytes_at(s, 7, bytes);
     writes(s, room, flags, &codes[..n], number, consumed, &bytes[..m]);
 }
 
+// COMMAND FLAGS ROOM . = NUMBER CONSUMED . and no more.
 fn is_vector(s: &[u8]) -> bool {
-    let w = word_at(s, 4);
-    let from = w.from;
-    let to = w.to;
-    check::same(&s[from..to], b"=")
+    if !is_decimal_at(s, 1) {
+        return false;
+    }
+    if 0xFFFFFFFF < number_at(s, 1) {
+        return false;
+    }
+    if !is_decimal_at(s, 2) {
+        return false;
+    }
+    if !is_word_at(s, 4, b"=") {
+        return false;
+    }
+    if !is_decimal_at(s, 5) {
+        return false;
+    }
+    if !is_decimal_at(s, 6) {
+        return false;
+    }
+    word_at(s, 7).to == s.len()
 }
 
-// How many vectors the line is.
+fn is_read(s: &[u8]) -> bool {
+    if !is_word_at(s, 0, b"read") {
+        return false;
+    }
+    if 16 < number_at(s, 2) {
+        return false;
+    }
+    if !is_bytes_at(s, 3) {
+        return false;
+    }
+    is_codes_at(s, 7)
+}
+
+fn is_write(s: &[u8]) -> bool {
+    if !is_word_at(s, 0, b"write") {
+        return false;
+    }
+    if 32 < number_at(s, 2) {
+        return false;
+    }
+    if !is_codes_at(s, 3) {
+        return false;
+    }
+    is_bytes_at(s, 7)
+}
+
+// How many vectors the line is: 1, or 0 for a remark and for a line that is no vector, which is told.
 fn run(s: &[u8]) -> usize
     ensures { λ r. ⌜ r ≤ 1 ⌝ }
 {
@@ -326,19 +480,17 @@ fn run(s: &[u8]) -> usize
     if s[0] == b'#' {
         return 0;
     }
-    if !is_vector(s) {
-        differs(b"form", s);
-        return 0;
+    if is_vector(s) {
+        if is_read(s) {
+            read_vector(s, &mut bytes, &mut codes);
+            return 1;
+        }
+        if is_write(s) {
+            write_vector(s, &mut codes, &mut bytes);
+            return 1;
+        }
     }
-    if s[0] == b'r' {
-        read_vector(s, &mut bytes, &mut codes);
-        return 1;
-    }
-    if s[0] == b'w' {
-        write_vector(s, &mut codes, &mut bytes);
-        return 1;
-    }
-    differs(b"command", s);
+    differs(b"form", s);
     0
 }
 

@@ -9,7 +9,7 @@ pub write-vector-spec : {M : Type 1} → statement M
 write-vector-spec =
     tie.close
     (tie.spec (λ c κs. search needs) (λ c. search needs) (λ c κs. search needs) (λ c κs. search needs) (λ c κs. search needs)
-    (λ c. search needs) (λ c κs. search needs) (λ c κs. search needs) (λ c. search needs)
+    (λ c κs. search needs) (λ c κs. search needs) (λ c. search needs)
     (λ c. sym (length-take-le _ _ (c .before .before .before .before .before .before .before .before .before .codes-at .ensures)))
     (λ c. search needs) (λ c. sym (length-take-le _ _ (c .before .before .before .before .bytes-at .ensures))) (λ c κs. search needs)
     (λ c. search needs) (λ c. search needs) (λ c. search needs))
