@@ -72,6 +72,29 @@ pub record Laid (m : Meaning) (k n : ℕ) (places : List ℕ) : Type 0 where
   pub count : n ≡ length (payload m)
   pub clear : places ≡ padded (payload m)
 
+-- what the data bytes say
+abbrev pub Says : Meaning → List ℕ → Type 0
+Says starting d = d ≡ []
+Says (held h) d = d ≡ h
+Says (trail us) d = d ≡ us
+Says (low u) d = (length d ≡ 2) × (unit d ≡ u)
+Says (high u) d = (length d ≡ 2) × (unit d ≡ u)
+
+says-payload : (m : Meaning) (d : List ℕ) → Says m d → Bytes d → d ≡ payload m
+says-payload starting d s b = s
+says-payload (held h) d s b = s
+says-payload (trail us) d s b = s
+says-payload (low u) d s b = rw (sym (s .1)) (sym (bytes-unit d (s .0) b))
+says-payload (high u) d s b = rw (sym (s .1)) (sym (bytes-unit d (s .0) b))
+
+-- what a valid state shows
+pub record Shown (F : Form) (m : Meaning) (k n : ℕ) (places : List ℕ) : Type 0 where
+  pub kind : k ≡ number m
+  pub within : n ≤ length places
+  pub clear : drop n places ≡ replicate (length places - n) 0
+  pub says : Says m (take n places)
+  pub valid : Valid F m
+
 module _ {F : Form} (S : Scans F 4) where
   pub part-held : (h : List ℕ) → Partial F h → scan F h ≡ part
   part-held h p = S .finds-part h (p .0) .1 p
@@ -100,51 +123,56 @@ module _ {F : Form} (S : Scans F 4) where
       ∙ ap (meaning F (number m)) (take-append-seam d (replicate (14 - length d) 0))
       ∙ laid-meaning m v
 
-  -- what a kind and its data bytes mean
-  meaning-laid : (k : ℕ) (d : List ℕ) (m : Meaning) → Bytes d → meaning F k d ≡ valid m → (k ≡ number m) × (d ≡ payload m) × Valid F m
-  meaning-laid zero d m b e =
+  meaning-says : (k : ℕ) (d : List ℕ) (m : Meaning) → meaning F k d ≡ valid m → (k ≡ number m) × Says m d × Valid F m
+  meaning-says zero d m e =
       let (t, w) = valid-only _ starting m (sym (is-starting F 0 d refl) ∙ e) in
       rw (sym w) (refl, empty d (eqb-true _ _ t), tt)
     where
       empty : (d : List ℕ) → length d ≡ 0 → d ≡ []
       empty [] e = refl
       empty (x ∷ d) e = absurd (omega arith)
-  meaning-laid (suc zero) d m b e =
+  meaning-says (suc zero) d m e =
       let (t, w) = valid-only _ (held d) m (sym (is-held F 1 d refl) ∙ e) in
       let (p, q) = two-true _ _ t in
       rw (sym w) (refl, refl, S .finds-part d (ltb-true 0 _ p) .0 (part-true _ q))
-  meaning-laid (suc (suc zero)) d m b e =
+  meaning-says (suc (suc zero)) d m e =
       let (t, w) = valid-only _ (trail d) m (sym (is-trail F 2 d refl) ∙ e) in
       let (p, q) = two-true _ _ t in
       rw (sym w) (refl, refl, (in-true (1 to 3) _ p, each-true tail d q))
-  meaning-laid (suc (suc (suc zero))) d m b e =
+  meaning-says (suc (suc (suc zero))) d m e =
       let (t, w) = valid-only _ (low (unit d)) m (sym (is-low F 3 d refl) ∙ e) in
       let (p, q) = two-true _ _ t in
-      rw (sym w) (refl, sym (bytes-unit d (eqb-true _ _ p) b), in-true lows _ q)
-  meaning-laid (suc (suc (suc (suc zero)))) d m b e =
+      rw (sym w) (refl, (eqb-true _ _ p, refl), in-true lows _ q)
+  meaning-says (suc (suc (suc (suc zero)))) d m e =
       let (t, w) = valid-only _ (high (unit d)) m (sym (is-high F 4 d refl) ∙ e) in
       let (p, q) = two-true _ _ t in
-      rw (sym w) (refl, sym (bytes-unit d (eqb-true _ _ p) b), in-true highs _ q)
-  meaning-laid (suc (suc (suc (suc (suc k))))) d m b e =
+      rw (sym w) (refl, (eqb-true _ _ p, refl), in-true highs _ q)
+  meaning-says (suc (suc (suc (suc (suc k))))) d m e =
       let z : _≡_ {A = ℕ} 0 1 = cc (is-none F (suc (suc (suc (suc (suc k))))) d (omega arith)) in absurd (omega arith)
+
+  pub sense-shows : (m : Meaning) (k n : ℕ) (places : List ℕ) → sense F k n places ≡ valid m → Shown F m k n places
+  sense-shows m k n places e = go (decLe n (length places)) (each (0 to 0) (drop n places)) refl
+    where
+      go : Dec (n ≤ length places) → (u : Bool) → each (0 to 0) (drop n places) ≡ u → Shown F m k n places
+      go (no h) u q = let z : _≡_ {A = ℕ} 0 1 = cc (sense-beyond F k n places (omega arith)) in absurd (omega arith)
+      go (yes h) false q = let z : _≡_ {A = ℕ} 0 1 = cc (sense-unclear F k n places h q) in absurd (omega arith)
+      go (yes h) true q =
+          let (p, d, v) = meaning-says k (take n places) m (sym (sense-clear F k n places h q) ∙ e) in
+          let z = zeros (drop n places) (each-true (0 to 0) (drop n places) q) in
+          record { kind = p; within = h; clear = z ∙ ap (λ (x : ℕ). replicate x 0) (length-drop n places); says = d; valid = v }
 
   -- a state is valid exactly where it is the layout of a valid meaning, and then it has that meaning
   pub sense-iff : (m : Meaning) (k n : ℕ) (places : List ℕ) → length places ≡ 14 → Bytes places → (sense F k n places ≡ valid m) ↔ (Laid m k n places × Valid F m)
   unfolding padded
-  sense-iff m k n places f b = (there (decLe n (length places)) (each (0 to 0) (drop n places)) refl, λ h. back (h .0) (h .1))
+  sense-iff m k n places f b = (λ e. there (sense-shows m k n places e), λ h. back (h .0) (h .1))
     where
       back : Laid m k n places → Valid F m → sense F k n places ≡ valid m
       back l v = rw (l .kind, l .count, l .clear) (laid-sense m v)
 
-      whole : take n places ≡ payload m → n ≡ length (payload m) → each (0 to 0) (drop n places) ≡ true → places ≡ padded (payload m)
-      whole d l q =
-          sym (take-append-drop n places)
-          ∙ ap₂ (λ (x y : List ℕ). x ++ y) d (zeros (drop n places) (each-true (0 to 0) (drop n places) q) ∙ ap (λ (x : ℕ). replicate x 0) (length-drop n places ∙ ap₂ (λ (x y : ℕ). x - y) f l))
-
-      there : Dec (n ≤ length places) → (u : Bool) → each (0 to 0) (drop n places) ≡ u → sense F k n places ≡ valid m → Laid m k n places × Valid F m
-      there (no h) u q e = let z : _≡_ {A = ℕ} 0 1 = cc (sense-beyond F k n places (omega arith)) in absurd (omega arith)
-      there (yes h) false q e = let z : _≡_ {A = ℕ} 0 1 = cc (sense-unclear F k n places h q) in absurd (omega arith)
-      there (yes h) true q e =
-          let (p, d, v) = meaning-laid k (take n places) m (all-take (λ x. x < 256) n places b) (sym (sense-clear F k n places h q) ∙ e) in
-          let l : n ≡ length (payload m) = sym (length-take-le n places h) ∙ ap (length {A = ℕ}) d in
-          (record { kind = p; count = l; clear = whole d l q }, v)
+      there : Shown F m k n places → Laid m k n places × Valid F m
+      there s =
+          let d = says-payload m (take n places) (s .says) (all-take (λ x. x < 256) n places b) in
+          let l : n ≡ length (payload m) = sym (length-take-le n places (s .within)) ∙ ap (length {A = ℕ}) d in
+          let z : replicate {A = ℕ} (length places - n) 0 ≡ replicate (14 - length (payload m)) 0 = ap₂ (λ (x y : ℕ). replicate (x - y) 0) f l in
+          let c = sym (take-append-drop n places) ∙ ap₂ (λ (x y : List ℕ). x ++ y) d (s .clear ∙ z) in
+          (record { kind = s .kind; count = l; clear = c }, s .valid)
