@@ -113,7 +113,7 @@ module _ {F : Form} (S : Scans F 4) where
   laid-meaning (low u) v = is-low F 3 (payload (low u)) refl ∙ rw (unit-bytes u, true-in lows u v) refl
   laid-meaning (high u) v = is-high F 4 (payload (high u)) refl ∙ rw (unit-bytes u, true-in highs u v) refl
 
-  laid-sense : (m : Meaning) → Valid F m → sense F (number m) (length (payload m)) (padded (payload m)) ≡ valid m
+  pub laid-sense : (m : Meaning) → Valid F m → sense F (number m) (length (payload m)) (padded (payload m)) ≡ valid m
   unfolding padded
   laid-sense m v =
       let d = payload m in

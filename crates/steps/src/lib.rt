@@ -170,25 +170,13 @@ fn after_first(count: usize, b1: u8, b2: u8, b3: u8) -> State
 fn of_unit(kind: u8, u: u16) -> State
     ensures { λ r. ⌜ r ≡ record { kind = kind; count = 2; bytes = padded (u % 0x100 ∷ u / 0x100 ∷ []) } ⌝ }
 {
+    let mut bytes: [u8; 14] = [0; 14];
+    bytes[0] = (u % 0x100) as u8;
+    bytes[1] = (u / 0x100) as u8;
     State {
         kind,
         count: 2,
-        bytes: [
-            (u % 0x100) as u8,
-            (u / 0x100) as u8,
-            0,
-            0,
-            0,
-            0,
-            0,
-            0,
-            0,
-            0,
-            0,
-            0,
-            0,
-            0,
-        ],
+        bytes,
     }
 }
 
@@ -235,10 +223,11 @@ fn bytes_back(c: u32) -> SteppedBack
     ensures { λ r. ⌜ backOf r ≡ to (tell bytes 0 (sequence plain c) 0) starting ⌝ }
 {
     let w = encode::bytes_of(Form::Plain, c);
+    let bytes = w.bytes;
     SteppedBack {
         answer: Back::Bytes,
         count: w.count,
-        bytes: w.bytes,
+        bytes,
         next: State::starting(),
     }
 }
@@ -312,7 +301,8 @@ impl State {
     fn kind_in(self, form: Form) -> Kind
         ensures { λ r. ⌜ r ≡ kindOf (senseOf (rowsOf form) self) ⌝ }
     {
-        state::kind_of(form, self.kind, self.count, self.bytes)
+        let bytes = self.bytes;
+        state::kind_of(form, self.kind, self.count, bytes)
     }
 
     // The bytes held, advanced over the input.

@@ -1,0 +1,56 @@
+-- What the steps make of bytes that come in packets. Assumes nothing.
+use mathlib.Core.Path.{_≡_}
+use mathlib.Core.List.{List, [], _∷_, _++_, map}
+use Prim.Native.Nat.{ℕ, suc, _+_, _-_, _≤_}
+use lib.ListN.{length}
+use Rattle.form.specs.Table.{plain, Codes, Scalar}
+use Rattle.form.specs.Text.{sequence}
+use Rattle.utf16.specs.Utf16.{utf16}
+use Rattle.state.specs.Meaning.{Meaning, starting, Valid, valid}
+use Rattle.steps.specs.declared.State.{State}
+use Rattle.steps.specs.State.{stateOf, senseOf}
+use Rattle.steps.specs.Step.{Name, refused, continuation, incomplete, bad-sequence, null, unit, Told, tell, Step, hold}
+use Rattle.restart.specs.Runs.{Bits, eight, sixteen, thirty-two, width, reading, answers, state-after, bytes-back, state-back, until-decided, total}
+
+abbrev pub start : State
+start = stateOf starting
+
+abbrev pub heard : Name → ℕ → ℕ → ℕ
+heard refused h n = h
+heard continuation h n = h
+heard incomplete h n = h
+heard bad-sequence h n = h + n
+heard null h n = h
+heard unit h n = h
+
+-- the same answer and state, where n bytes of the input came before this call: they are not consumed in it, and a bad answer tells them as held
+abbrev pub later : ℕ → Step → Step
+later n x =
+    record {
+      answer = tell (x .answer .name) (x .answer .number) (x .answer .unit) (x .answer .consumed - n) (heard (x .answer .name) (x .answer .held) n);
+      next = x .next;
+    }
+
+pub record Packets : Type 0 where
+  -- with h held the next 4 - h bytes, in any cut into calls, bring an answer other than incomplete
+  pub decided : (b : Bits) (s : State) (h : List ℕ) (is : List (List ℕ)) → senseOf plain s ≡ valid (hold h) → 4 ≤ length h + total is → until-decided b s is .answer .name ≡ incomplete → ⊥
+  -- pending units, at most three of 8 bits and one of 16, come out one a call, whatever the input
+  pub pending : (b : Bits) (s : State) (m : Meaning) (is : List (List ℕ)) → senseOf plain s ≡ valid m → length is ≡ length (width b .due m)
+      → (answers b s is ≡ map (λ u. tell continuation 0 u 0 0) (width b .due m)) × ((1 ≤ length is) → state-after b s is ≡ start)
+  pub pending-few : (b : Bits) (m : Meaning) → Valid plain m → length (width b .due m) ≤ 3
+  pub pending-one : (m : Meaning) → length (width sixteen .due m) ≤ 1
+  -- from the start the units of a well-formed sequence are its UTF-8, its UTF-16 or its code, in order
+  pub whole : (b : Bits) (w : List ℕ) (c : ℕ) (is : List (List ℕ)) → Codes plain w c → suc (length is) ≡ length (width b .units c)
+      → (map (λ (t : Told). t .unit) (answers b start (w ∷ is)) ≡ width b .units c) × (state-after b start (w ∷ is) ≡ start)
+  pub utf8-units : (w : List ℕ) (c : ℕ) → Codes plain w c → width eight .units c ≡ w
+  pub utf16-units : (c : ℕ) → width sixteen .units c ≡ utf16 c
+  pub code-units : (c : ℕ) → width thirty-two .units c ≡ c ∷ []
+  -- the step back turns the 16-bit units of a scalar value into its well-formed sequence
+  pub back : (c : ℕ) → Scalar c → (bytes-back start (utf16 c) ≡ sequence plain c) × (state-back start (utf16 c) ≡ start)
+  -- so that it is the inverse of the 16-bit step
+  pub there-and-back : (w : List ℕ) (c : ℕ) (is : List (List ℕ)) → Codes plain w c → suc (length is) ≡ length (utf16 c) → bytes-back start (map (λ (t : Told). t .unit) (answers sixteen start (w ∷ is))) ≡ w
+  pub back-and-there : (c : ℕ) (is : List (List ℕ)) → Scalar c → suc (length is) ≡ length (utf16 c) → map (λ (t : Told). t .unit) (answers sixteen start (bytes-back start (utf16 c) ∷ is)) ≡ utf16 c
+  -- an answer other than incomplete does not change when more bytes follow
+  pub stays : (b : Bits) (s : State) (i j : List ℕ) → (reading b s i .answer .name ≡ incomplete → ⊥) → reading b s (i ++ j) ≡ reading b s i
+  -- and an incomplete one goes on to the answer of both inputs together
+  pub goes-on : (b : Bits) (s : State) (i j : List ℕ) → reading b s i .answer .name ≡ incomplete → reading b (reading b s i .next) j ≡ later (length i) (reading b s (i ++ j))
