@@ -1,0 +1,2 @@
+pub mod Senses
+pub mod Splits

@@ -1,0 +1,193 @@
+-- The units of a code come out in order, and the step back makes its sequence of them again. Assumes nothing.
+use mathlib.Core.Path.{_≡_, refl, sym, ap, ap₂, _∙_}
+use mathlib.Core.Bool.{Bool, true, false}
+use mathlib.Core.List.{List, [], _∷_, _++_, map, append-nil}
+use Prim.Native.Nat.{ℕ, suc, _≤_, _<_}
+use native.Mathlib.Omega.{arith}
+use lib.Dec.{eqb}
+use lib.ListN.{length, take}
+use lib.Seq.{take-length, take-take, take-append-seam}
+use borrow.Author.Tests.{eqb-true}
+use Rattle.form.specs.Table.{plain, In, Codes, Scalar}
+use Rattle.form.specs.Scan.{well}
+use Rattle.form.specs.Text.{sequence}
+use Rattle.form.proofs.Rows.{true-in, false-in}
+use Rattle.form.proofs.Utf8.{plain-scans, plain-pattern, scalar-below}
+use Rattle.form.proofs.Sequences.{scalar-outside, plain-scalar, pattern-bytes}
+use Rattle.utf16.specs.Utf16.{highs, lows, utf16, paired}
+use Rattle.utf16.proofs.Laws.{Coded, alone, pair, scalar-units}
+use Rattle.state.specs.Meaning.{Meaning, starting, held, trail, low, high, Valid, valid}
+use Rattle.steps.specs.declared.State.{State}
+use Rattle.steps.specs.State.{stateOf, senseOf}
+use Rattle.steps.specs.Step.{continuation, Told, tell, to, left, reads, step}
+use Rattle.steps.specs.Back as Back
+use Rattle.steps.specs.Back.{step-back}
+use Rattle.restart.specs.Runs.{Bits, eight, sixteen, thirty-two, width, reading, answers, state-after, bytes-back, state-back}
+use Rattle.restart.specs.Packets.{start}
+use Rattle.restart.proofs.States.{sense-state, sense-valid, reads-on, Units, code-units}
+
+-- ---- pending units
+
+-- what a step finds pending
+data Due : Bits → Meaning → List ℕ → Type 0 where
+  none : {b : Bits} {m : Meaning} → Due b m []
+  some : (us : List ℕ) → Due eight (trail us) us
+  one : (u : ℕ) → Due sixteen (low u) (u ∷ [])
+
+due : (b : Bits) (m : Meaning) → Due b m (width b .due m)
+due eight starting = none
+due eight (held h) = none
+due eight (trail us) = some us
+due eight (low u) = none
+due eight (high u) = none
+due sixteen starting = none
+due sixteen (held h) = none
+due sixteen (trail us) = none
+due sixteen (low u) = one u
+due sixteen (high u) = none
+due thirty-two m = none
+
+-- a call brings the first of them, and the others stay
+comes : {b : Bits} {m : Meaning} {u : ℕ} {us : List ℕ} (s : State) (i : List ℕ) → Due b m (u ∷ us) → senseOf plain s ≡ valid m
+    → reading b s i ≡ to (tell continuation 0 u 0 0) (left (width b) us)
+unfolding step
+comes s i (some vs) e = rw e refl
+comes s i (one v) e = rw e refl
+
+others : {b : Bits} {m : Meaning} {u : ℕ} {us : List ℕ} → Due b m (u ∷ us) → Valid plain m → Due b (left (width b) us) us × Valid plain (left (width b) us)
+others {us = []} (some vs) v = (none, tt)
+others {us = x ∷ us} (some vs) v = (some (x ∷ us), ((omega arith, omega arith), v .1 .1))
+others (one u) v = (none, tt)
+
+-- where none are left the state is the starting state
+left-none : (b : Bits) (us : List ℕ) → us ≡ [] → stateOf (left (width b) us) ≡ start
+left-none b us e = rw e refl
+
+-- they come out of as many calls
+out : (us : List ℕ) (b : Bits) (m : Meaning) (s : State) (is : List (List ℕ)) → Due b m us → senseOf plain s ≡ valid m → length is ≡ length us
+    → (answers b s is ≡ map (λ u. tell continuation 0 u 0 0) us) × ((us ≡ [] → s ≡ start) → state-after b s is ≡ start)
+out [] b m s [] d e l = (refl, λ h. h refl)
+out [] b m s (i ∷ is) d e l = absurd (omega arith)
+out (u ∷ us) b m s [] d e l = absurd (omega arith)
+out (u ∷ us) b m s (i ∷ is) d e l =
+    let n = left (width b) us in
+    let (q, v) = others d (sense-valid s m e) in
+    let r = out us b n (stateOf n) is q (sense-state n v) (omega arith) in
+    rw (comes s i d e) (ap (λ (t : List Told). tell continuation 0 u 0 0 ∷ t) (r .0), λ h. r .1 (left-none b us))
+
+pub pending : (b : Bits) (s : State) (m : Meaning) (is : List (List ℕ)) → senseOf plain s ≡ valid m → length is ≡ length (width b .due m)
+    → (answers b s is ≡ map (λ u. tell continuation 0 u 0 0) (width b .due m)) × ((1 ≤ length is) → state-after b s is ≡ start)
+pending b s m is e l =
+    let r = out (width b .due m) b m s is (due b m) e l in
+    (r .0, λ h. r .1 (λ q. absurd (omega (arith, ap (length {A = ℕ}) q))))
+
+few : {b : Bits} {m : Meaning} {us : List ℕ} → Due b m us → Valid plain m → length us ≤ 3
+few none v = omega arith
+few (some us) v = v .0 .1
+few (one u) v = omega arith
+
+pub pending-few : (b : Bits) (m : Meaning) → Valid plain m → length (width b .due m) ≤ 3
+pending-few b m v = few (due b m) v
+
+one-due : {m : Meaning} {us : List ℕ} → Due sixteen m us → length us ≤ 1
+one-due none = omega arith
+one-due (one u) = omega arith
+
+pub pending-one : (m : Meaning) → length (width sixteen .due m) ≤ 1
+pending-one m = one-due (due sixteen m)
+
+-- ---- a whole sequence
+
+code-zero : (b : Bits) → width b .units 0 ≡ 0 ∷ []
+unfolding plain utf16
+code-zero eight = refl
+code-zero sixteen = refl
+code-zero thirty-two = refl
+
+-- its first unit, and the state for the others
+first : (b : Bits) (w : List ℕ) (c : ℕ) → Codes plain w c → (u : Units b c)
+    → (reading b start w .answer .unit ≡ u .first) × (reading b start w .next ≡ stateOf (left (width b) (u .rest)))
+first b w c d u = go (eqb c 0) refl
+  where
+    found : reading b start w ≡ reads (width b) [] w (well c (length w))
+    found =
+        reads-on b start [] w (sense-state starting tt)
+        ∙ ap (reads (width b) [] w) (plain-scans .finds-well w c (length w) .1 (rw (take-length w) d, omega arith))
+
+    go : (t : Bool) → eqb c 0 ≡ t → (reading b start w .answer .unit ≡ u .first) × (reading b start w .next ≡ stateOf (left (width b) (u .rest)))
+    go true e =
+        let q : 0 ∷ [] ≡ u .first ∷ u .rest = sym (code-zero b) ∙ ap (width b .units) (sym (eqb-true c 0 e)) ∙ u .are in
+        let z : u .first ≡ 0 = cc in
+        let r : u .rest ≡ [] = cc in
+        rw (found, e, z, r) (refl, refl)
+    go false e = rw (found, e, u .are) (refl, refl)
+
+-- the others are due in that state
+rest-due : (b : Bits) (c : ℕ) → Scalar c → (u : Units b c) → Due b (left (width b) (u .rest)) (u .rest)
+rest-due b c s u = go b (u .first) (u .rest) (u .are)
+  where
+    go : (b : Bits) (x : ℕ) (us : List ℕ) → width b .units c ≡ x ∷ us → Due b (left (width b) us) us
+    go eight x [] e = none
+    go eight x (y ∷ us) e = some (y ∷ us)
+    go thirty-two x us e = let r : us ≡ [] = cc in rw r none
+    go sixteen x us e = by (utf16 c) e (scalar-units c s)
+      where
+        by : (vs : List ℕ) → vs ≡ x ∷ us → Coded c vs → Due sixteen (left (width sixteen) us) us
+        by vs q (alone t l) = let r : us ≡ [] = cc in rw r none
+        by vs q (pair h l i j k) = let r : us ≡ l ∷ [] = cc in rw r (one l)
+
+told-units : (us : List ℕ) → map (λ (t : Told). t .unit) (map (λ u. tell continuation 0 u 0 0) us) ≡ us
+told-units [] = refl
+told-units (u ∷ us) = ap (λ (t : List ℕ). u ∷ t) (told-units us)
+
+pub whole : (b : Bits) (w : List ℕ) (c : ℕ) (is : List (List ℕ)) → Codes plain w c → suc (length is) ≡ length (width b .units c)
+    → (map (λ (t : Told). t .unit) (answers b start (w ∷ is)) ≡ width b .units c) × (state-after b start (w ∷ is) ≡ start)
+whole b w c is d l =
+    let s = plain-pattern w c .0 d .0 in
+    let u = code-units b c s in
+    let m = left (width b) (u .rest) in
+    let (f, n) = first b w c d u in
+    let r = out (u .rest) b m (stateOf m) is (rest-due b c s u) (sense-state m (u .kept)) (omega (arith, ap (length {A = ℕ}) (u .are))) in
+    rw (n, u .are) (ap₂ (λ (x : ℕ) (y : List ℕ). x ∷ y) f (ap (map (λ (t : Told). t .unit)) (r .0) ∙ told-units (u .rest)), r .1 (left-none b (u .rest)))
+
+pub utf8-units : (w : List ℕ) (c : ℕ) → Codes plain w c → width eight .units c ≡ w
+utf8-units w c d = let (s, e) = plain-pattern w c .0 d in plain-scalar c s ∙ sym e
+
+-- ---- the step back
+
+-- the bytes told are the sequence again
+told-bytes : (c : ℕ) → Scalar c → take (length (sequence plain c)) (take 4 (sequence plain c ++ (0 ∷ 0 ∷ 0 ∷ 0 ∷ []))) ++ [] ≡ sequence plain c
+told-bytes c s =
+    let w = sequence plain c in
+    let l : length w ≤ 4 = rw (plain-scalar c s) (pattern-bytes c (scalar-below c s) .1) in
+    append-nil _ ∙ take-take (length w) 4 (w ++ (0 ∷ 0 ∷ 0 ∷ 0 ∷ [])) l ∙ take-append-seam w (0 ∷ 0 ∷ 0 ∷ 0 ∷ [])
+
+back-alone : (c : ℕ) → Scalar c → c < 0x10000 → step-back start c ≡ Back.to (Back.tell Back.bytes 0 (sequence plain c) 0) starting
+unfolding step-back
+back-alone c s l =
+    rw (sense-state starting tt, false-in highs c (λ h. omega (arith, scalar-outside c s (h .0))), false-in lows c (λ h. omega (arith, scalar-outside c s (omega arith)))) refl
+
+back-high : (h : ℕ) → In highs h → step-back start h ≡ Back.to (Back.tell Back.unit-held 0 [] 0) (high h)
+unfolding step-back
+back-high h p = rw (sense-state starting tt, true-in highs h p) refl
+
+back-low : (h l : ℕ) → In highs h → In lows l → step-back (stateOf (high h)) l ≡ Back.to (Back.tell Back.bytes 0 (sequence plain (paired h l)) 0) starting
+unfolding step-back
+back-low h l p q = rw (sense-state (high h) p, true-in lows l q) refl
+
+pub back : (c : ℕ) → Scalar c → (bytes-back start (utf16 c) ≡ sequence plain c) × (state-back start (utf16 c) ≡ start)
+back c s = go (utf16 c) (scalar-units c s)
+  where
+    go : (us : List ℕ) → Coded c us → (bytes-back start us ≡ sequence plain c) × (state-back start us ≡ start)
+    go us (alone t l) = rw (state-back, back-alone c t l) (told-bytes c s, refl)
+    go us (pair h l p q e) = rw (state-back, back-high h p, back-low h l p q, e) (told-bytes c s, refl)
+
+pub there-and-back : (w : List ℕ) (c : ℕ) (is : List (List ℕ)) → Codes plain w c → suc (length is) ≡ length (utf16 c)
+    → bytes-back start (map (λ (t : Told). t .unit) (answers sixteen start (w ∷ is))) ≡ w
+there-and-back w c is d l = ap (bytes-back start) (whole sixteen w c is d l .0) ∙ back c (plain-pattern w c .0 d .0) .0 ∙ utf8-units w c d
+
+pub back-and-there : (c : ℕ) (is : List (List ℕ)) → Scalar c → suc (length is) ≡ length (utf16 c)
+    → map (λ (t : Told). t .unit) (answers sixteen start (bytes-back start (utf16 c) ∷ is)) ≡ utf16 c
+back-and-there c is s l =
+    let e = back c s .0 ∙ plain-scalar c s in
+    whole sixteen (bytes-back start (utf16 c)) c is (plain-pattern (bytes-back start (utf16 c)) c .1 (s, e)) l .0
