@@ -1,2 +1,4 @@
 pub mod Senses
 pub mod Splits
+pub mod Windows
+pub mod Advances

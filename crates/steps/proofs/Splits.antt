@@ -1,8 +1,8 @@
 -- The units of a code, and the state for those after the first. Assumes nothing.
-use mathlib.Core.Path.{_≡_, refl, sym, ap, ap₂, _∙_}
+use mathlib.Core.Path.{_≡_, refl, sym, ap, _∙_}
 use mathlib.Core.Bool.{Bool, true, false, cond}
 use mathlib.Core.List.{List, [], _∷_, _++_}
-use Prim.Native.Nat.{ℕ, zero, suc, _-_, _%_, _/_, _≤_, _<_}
+use Prim.Native.Nat.{ℕ, zero, suc, _-_, _≤_, _<_}
 use native.Mathlib.Omega.{arith}
 use lib.Dec.{ltb}
 use lib.ListN.{length, take, drop, getD, replicate, take-append-drop}
@@ -11,9 +11,9 @@ use Rattle.form.specs.Table.{plain}
 use Rattle.form.specs.Text.{sequence}
 use Rattle.form.proofs.Utf8.{plain-scans, scalar-below}
 use Rattle.form.proofs.Sequences.{Kind, scalar, surrogate, beyond, kind, plain-scalar, plain-none, plain-surrogate, pattern-bytes}
-use Rattle.utf16.specs.Utf16.{surrogate-pair, utf16}
+use Rattle.utf16.specs.Utf16.{utf16}
 use Rattle.state.specs.Meaning.{starting, trail, low, padded, valid}
-use Rattle.state.proofs.Laid.{Shown, sense-shows}
+use Rattle.state.proofs.Laid.{sense-shows}
 use Rattle.steps.specs.declared.State.{State}
 use Rattle.steps.specs.State.{stateOf, senseOf}
 use Rattle.steps.specs.Step.{continuation, tell, to, width8, width16, left, come-out}
@@ -67,11 +67,11 @@ sequence-few c = go (kind c)
     go (beyond h) = rw (plain-none c (λ s. omega (arith, scalar-below c s))) (omega arith)
 
 -- the state once the first unit of w is out
-pub rest-state : (b w : List ℕ) → Pads b w
-    → cond (ltb (length w) 2) (stateOf starting) (record { kind = 2; count = length w - 1; bytes = padded (getD b 1 0 ∷ getD b 2 0 ∷ getD b 3 0 ∷ []) })
+pub rest-state : (b w : List ℕ) (n : ℕ) → n ≡ length w → Pads b w
+    → cond (ltb n 2) (stateOf starting) (record { kind = 2; count = n - 1; bytes = padded (getD b 1 0 ∷ getD b 2 0 ∷ getD b 3 0 ∷ []) })
     ≡ stateOf (left width8 (drop 1 w))
 unfolding stateOf padded
-rest-state b w p = go w (p .few) (p .second) (p .third) (p .fourth)
+rest-state b w n e p = rw e (go w (p .few) (p .second) (p .third) (p .fourth))
   where
     go : (w : List ℕ) → length w ≤ 4 → getD b 1 0 ≡ getD w 1 0 → getD b 2 0 ≡ getD w 2 0 → getD b 3 0 ≡ getD w 3 0
         → cond (ltb (length w) 2) (stateOf starting) (record { kind = 2; count = length w - 1; bytes = padded (getD b 1 0 ∷ getD b 2 0 ∷ getD b 3 0 ∷ []) })

@@ -38,19 +38,20 @@ finishes W n (Code c m) s = convert W c m
 unfoldable pub finish : Width → ℕ → Advanced → Step
 finish W n a = finishes W n (a .reading) (a .next)
 
--- whatever the width, this is the reading of held bytes and input
-abbrev pub ReadsOn : Form → List ℕ → List ℕ → Advanced → Type 0
-ReadsOn F h i a = (W : Width) → finish W (length i) a ≡ reads W h i (scan F (h ++ i))
-
--- and this is the step
-abbrev pub Advances : Form → State → List ℕ → Advanced → Type 0
-Advances F s i a = (W : Width) → finish W (length i) a ≡ step F W s i
-
+-- units that are pending are the state's own
 abbrev pub Pending : Form → Reading → State → Type 0
 Pending F (Done a) s = Unit {0}
 Pending F Trail s = senseOf F s ≡ valid (trail (used s))
 Pending F (Low u) s = Unit {0}
 Pending F (Code c m) s = Unit {0}
+
+-- whatever the width, this is the reading of held bytes and input
+abbrev pub ReadsOn : Form → List ℕ → List ℕ → Advanced → Type 0
+ReadsOn F h i a = ((W : Width) → finish W (length i) a ≡ reads W h i (scan F (h ++ i))) × Pending F (a .reading) (a .next)
+
+-- and this is the step
+abbrev pub Advances : Form → State → List ℕ → Advanced → Type 0
+Advances F s i a = ((W : Width) → finish W (length i) a ≡ step F W s i) × Pending F (a .reading) (a .next)
 
 -- an answer that is the same whatever the input's length
 abbrev pub Gives : Stepped → Step → Type 0

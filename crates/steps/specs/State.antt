@@ -1,6 +1,5 @@
 -- The state by value. Assumes nothing.
 use mathlib.Core.Bool.{Bool, true, false}
-use Prim.Native.Nat.{ℕ}
 use lib.ListN.{length}
 use Rattle.form.specs.Table.{Form}
 use Rattle.state.specs.Meaning.{Meaning, starting, held, trail, low, high, number, payload, padded, Sense, invalid, valid, sense}

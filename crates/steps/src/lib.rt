@@ -16,7 +16,7 @@ ghost use Rattle.state.specs.Meaning.{starting, trail, padded, valid, kindOf};
 ghost use Rattle.steps.specs.State.{stateOf, senseOf, starting?, resetting};
 ghost use Rattle.steps.specs.Step.{stepOf, width8, width16, width32, convert, come-out, step};
 ghost use Rattle.steps.specs.Back.{bytes, backOf, tell, to, alone, after, step-back};
-ghost use Rattle.steps.specs.Advance.{used, taken, Holding, ReadsOn, Advances, Pending, Gives};
+ghost use Rattle.steps.specs.Advance.{used, taken, Holding, ReadsOn, Advances, Gives};
 
 // Which of document 01's states this is, by its number: 0 starting, 1 a partial sequence held, 2 8-bit units pending, 3 a 16-bit unit
 // pending, 4 a 16-bit unit held. Then how many bytes are used, and the bytes, a 16-bit unit low byte first. Unused places are zero.
@@ -307,8 +307,7 @@ impl State {
 
     // The bytes held, advanced over the input.
     fn advance(self, form: Form, input: &[u8]) -> Advanced
-        ensures shared { λ r. ⌜ Advances (rowsOf form) self (now (input .entry)) r ⌝ }
-        ensures pending { λ r. ⌜ Pending (rowsOf form) (r .reading) (r .next) ⌝ }
+        ensures { λ r. ⌜ Advances (rowsOf form) self (now (input .entry)) r ⌝ }
     {
         let n = self.count as usize;
         let b = self.bytes;

@@ -1,5 +1,5 @@
 -- The three kinds of unit. Assumes nothing.
-use mathlib.Core.Path.{_≡_, refl}
+use mathlib.Core.Path.{refl}
 use mathlib.Core.Logic.{⊎-elim}
 use native.Mathlib.Omega.{arith}
 use borrow.Author.Needs.{needs}
@@ -25,7 +25,7 @@ returns-3 : tie.Need-returns-3
 returns-3 c =
     let u = c .before .before .args .u in
     let no : (In highs u → ⊥) × (In lows u → ⊥) =
-        ⊎-elim (λ w. (λ h. omega arith, λ h. omega arith)) (λ w. (λ h. omega (arith, w .1 .left), λ h. omega (arith, w .1 .left))) (c .before .if1 .came) in
+    ⊎-elim (λ w. (λ h. omega arith, λ h. omega arith)) (λ w. (λ h. omega (arith, w .1 .left), λ h. omega (arith, w .1 .left))) (c .before .if1 .came) in
     rw (false-in highs u (no .0), false-in lows u (no .1)) (c .bytes-back .ensures)
 
 pub back-alone-spec : {M : Type 1} → statement M

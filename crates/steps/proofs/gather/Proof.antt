@@ -1,5 +1,5 @@
 -- Invariant: i bytes of the input are copied in. Assumes nothing.
-use Prim.Native.Nat.{ℕ, _+_, _≤_, _-_}
+use Prim.Native.Nat.{_≤_, _-_}
 use mathlib.Core.Path.{_≡_, refl}
 use native.Mathlib.Numerals.{add-one}
 use native.Mathlib.Omega.{arith}
@@ -24,9 +24,10 @@ loop-holds c = let s = c .before .before .args in (omega arith, paste-zero (s .h
 loop-again : tie.Need-loop-again Inv-loop μ-loop
 loop-again c =
     let l = c .before .before in
-    let s = l .before .before .before .args in
-    (omega arith,
-    rw (add-one, l .loop .inv .1) (paste-suc (s .held) (s .n) (s .input .now) (l .loop .i) 0 (omega (arith, places (l .before .before .before))) (omega arith)))
+    let s = l .before .before .before .args in (
+      omega arith,
+      rw (add-one, l .loop .inv .1) (paste-suc (s .held) (s .n) (s .input .now) (l .loop .i) 0 (omega (arith, places (l .before .before .before))) (omega arith)),
+    )
 
 returns : tie.Need-returns Inv-loop μ-loop
 returns c =

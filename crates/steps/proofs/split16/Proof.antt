@@ -1,10 +1,8 @@
 -- The leaf gives one unit, or two of which the second is pending. Assumes nothing.
-use mathlib.Core.Path.{_≡_, refl, sym, ap, _∙_}
-use mathlib.Core.List.{List, [], _∷_, _++_}
-use Prim.Native.Nat.{ℕ, _≤_, _<_}
-use native.Mathlib.Omega.{arith}
+use mathlib.Core.Path.{refl, sym}
+use Prim.Native.Nat.{_≤_, _<_}
 use borrow.Author.Needs.{needs}
-use lib.ListN.{length, take, drop, getD}
+use lib.ListN.{length}
 use Rattle.utf16.specs.Utf16.{utf16, unitsOf}
 use Rattle.steps.specs.State.{stateOf}
 use Rattle.steps.specs.Step.{stepOf}

@@ -1,10 +1,8 @@
 -- The leaf gives the units; those after the first are pending. Assumes nothing.
-use mathlib.Core.Path.{_≡_, refl, sym, ap, _∙_}
-use mathlib.Core.List.{List, [], _∷_, _++_}
-use Prim.Native.Nat.{ℕ, _≤_}
+use mathlib.Core.Path.{_≡_, refl}
 use native.Mathlib.Omega.{arith}
 use borrow.Author.Needs.{needs}
-use lib.ListN.{length, take, getD}
+use lib.ListN.{length}
 use Rattle.encode.specs.Leaf.{codedOf}
 use Rattle.form.specs.Table.{plain}
 use Rattle.form.specs.Text.{sequence}
@@ -27,7 +25,7 @@ unfolding stepOf
 returns c n =
     let (l, p) = pads (c .before .before .before) in
     let e = c .before .after-first .ensures in
-    rw (c .answered .ensures, e, l, p .first, rest-state _ _ p) refl
+    rw (c .answered .ensures, e, rest-state _ _ _ l p, p .first) refl
 
 pub split8-spec : {M : Type 1} → statement M
 split8-spec =
