@@ -12,10 +12,10 @@ use Rattle.form.specs.Table.{plain}
 use Rattle.form.specs.Scan.{Found, well, part, bad, scan}
 use Rattle.form.specs.Pattern.{pattern}
 use Rattle.form.proofs.Utf8.{plain-scans, plain-pattern, plain-decodes}
-use Rattle.state.specs.Meaning.{starting, held, trail, low, high, Valid, Sense, invalid, valid}
-use Rattle.steps.specs.declared.State.{State}
-use Rattle.steps.specs.State.{senseOf}
-use Rattle.steps.specs.Step.{Name, refused, continuation, incomplete, bad-sequence, null, unit, tell, Step, Width, to, hold, convert, reads, come-out, step}
+use Rattle.state.specs.Meaning.{starting, held, trail, low, high, Valid, Sense, invalid, valid, senseOf}
+use Rattle.state.specs.declared.Record.{Record}
+use Rattle.units.specs.Width.{Width}
+use Rattle.advance.specs.Step.{Name, refused, continuation, incomplete, bad-sequence, null, unit, tell, Step, to, hold, convert, reads, come-out, step}
 use Rattle.restart.specs.Runs.{Bits, width, reading, going-on, until-decided, total}
 use Rattle.restart.specs.Packets.{later}
 use Rattle.restart.proofs.States.{sense-state, sense-valid, part-hold, reads-on}
@@ -25,15 +25,15 @@ use Rattle.restart.proofs.States.{sense-state, sense-valid, part-hold, 
 abbrev named : Step → Name
 named x = x .answer .name
 
-data Reader (b : Bits) (s : State) : Type 0 where
+data Reader (b : Bits) (s : Record) : Type 0 where
   holds : (h : List ℕ) → senseOf plain s ≡ valid (hold h) → Reader b s
   settled : (x : Step) → (named x ≡ incomplete → ⊥) → ((i : List ℕ) → reading b s i ≡ x) → Reader b s
 
-comes-out : (W : Width) (s : State) (us : List ℕ) → named (come-out W s us) ≡ incomplete → ⊥
+comes-out : (W : Width) (s : Record) (us : List ℕ) → named (come-out W s us) ≡ incomplete → ⊥
 comes-out W s [] e = let z : _≡_ {A = ℕ} 0 1 = cc in omega arith
 comes-out W s (u ∷ us) e = let z : _≡_ {A = ℕ} 0 1 = cc in omega arith
 
-reader : (b : Bits) (s : State) → Reader b s
+reader : (b : Bits) (s : Record) → Reader b s
 unfolding step
 reader b s = go (senseOf plain s) refl
   where
@@ -50,14 +50,14 @@ reader b s = go (senseOf plain s) refl
     go (valid (high u)) e = out [] (λ i. rw e refl)
 
 -- what is found in the bytes held and the input
-found : (b : Bits) (s : State) (h i : List ℕ) (x : Found) → senseOf plain s ≡ valid (hold h) → scan plain (h ++ i) ≡ x → reading b s i ≡ reads (width b) h i x
+found : (b : Bits) (s : Record) (h i : List ℕ) (x : Found) → senseOf plain s ≡ valid (hold h) → scan plain (h ++ i) ≡ x → reading b s i ≡ reads (width b) h i x
 found b s h i x e f = reads-on b s h i e ∙ ap (reads (width b) h i) f
 
-found-both : (b : Bits) (s : State) (h i j : List ℕ) (x : Found) → senseOf plain s ≡ valid (hold h) → scan plain (h ++ i ++ j) ≡ x
+found-both : (b : Bits) (s : Record) (h i j : List ℕ) (x : Found) → senseOf plain s ≡ valid (hold h) → scan plain (h ++ i ++ j) ≡ x
     → reading b s (i ++ j) ≡ reads (width b) h (i ++ j) x
 found-both b s h i j x e f = found b s h (i ++ j) x e (ap (scan plain) (sym (append-assoc h i j)) ∙ f)
 
-pub stays : (b : Bits) (s : State) (i j : List ℕ) → (reading b s i .answer .name ≡ incomplete → ⊥) → reading b s (i ++ j) ≡ reading b s i
+pub stays : (b : Bits) (s : Record) (i j : List ℕ) → (reading b s i .answer .name ≡ incomplete → ⊥) → reading b s (i ++ j) ≡ reading b s i
 stays b s i j n = go (reader b s)
   where
     by : (h : List ℕ) → senseOf plain s ≡ valid (hold h) → (x : Found) → scan plain (h ++ i) ≡ x → reading b s (i ++ j) ≡ reading b s i
@@ -72,7 +72,7 @@ stays b s i j n = go (reader b s)
 -- ---- an incomplete answer
 
 -- all that was held and came is a partial sequence, and is held now
-record Waits (b : Bits) (s : State) (h i : List ℕ) : Type 0 where
+record Waits (b : Bits) (s : Record) (h i : List ℕ) : Type 0 where
   parts : scan plain (h ++ i) ≡ part
   after : senseOf plain (reading b s i .next) ≡ valid (hold (h ++ i))
 
@@ -85,7 +85,7 @@ reads-name W h i (well c m) n = go (eqb c 0) n
     go true n = cc
     go false n = cc
 
-waits : (b : Bits) (s : State) (h i : List ℕ) → senseOf plain s ≡ valid (hold h) → reading b s i .answer .name ≡ incomplete → Waits b s h i
+waits : (b : Bits) (s : Record) (h i : List ℕ) → senseOf plain s ≡ valid (hold h) → reading b s i .answer .name ≡ incomplete → Waits b s h i
 waits b s h i e n =
     let p = reads-name (width b) h i (scan plain (h ++ i)) (sym (ap named (reads-on b s h i e)) ∙ n) in
     let next = ap (λ (x : Step). senseOf plain (x .next)) (found b s h i part e p) in
@@ -118,7 +118,7 @@ together W h i j (well c n) p f = go (eqb c 0) refl
         rw (e, l) refl
     go false e = let l : n - length (h ++ i) ≡ n - length h - length i = omega (arith, length-append h i) in rw (e, l) refl
 
-pub goes-on : (b : Bits) (s : State) (i j : List ℕ) → reading b s i .answer .name ≡ incomplete
+pub goes-on : (b : Bits) (s : Record) (i j : List ℕ) → reading b s i .answer .name ≡ incomplete
     → reading b (reading b s i .next) j ≡ later (length i) (reading b s (i ++ j))
 goes-on b s i j n = go (reader b s)
   where
@@ -150,6 +150,6 @@ decided-from (i ∷ is) b x bad-sequence h e f l g = let z : _≡_ {A = ℕ} 0 1
 decided-from (i ∷ is) b x null h e f l g = let z : _≡_ {A = ℕ} 0 1 = cc in omega arith
 decided-from (i ∷ is) b x unit h e f l g = let z : _≡_ {A = ℕ} 0 1 = cc in omega arith
 
-pub decided : (b : Bits) (s : State) (h : List ℕ) (is : List (List ℕ)) → senseOf plain s ≡ valid (hold h) → 4 ≤ length h + total is
+pub decided : (b : Bits) (s : Record) (h : List ℕ) (is : List (List ℕ)) → senseOf plain s ≡ valid (hold h) → 4 ≤ length h + total is
     → until-decided b s is .answer .name ≡ incomplete → ⊥
 decided b s h is e l g = decided-from is b (record { answer = tell incomplete 2 0 0 0; next = s }) incomplete h refl (λ q. e) l g

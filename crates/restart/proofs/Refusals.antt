@@ -15,13 +15,14 @@ use Rattle.form.proofs.Rows.{in-true}
 use Rattle.form.proofs.Part.{codes-length}
 use Rattle.form.proofs.Utf8.{plain-scans, plain-pattern}
 use Rattle.utf16.specs.Utf16.{highs, lows}
-use Rattle.state.specs.Meaning.{Meaning, starting, held, trail, low, high, Valid, Sense, invalid, valid}
+use Rattle.state.specs.Meaning.{Meaning, starting, held, trail, low, high, Valid, Sense, invalid, valid, recordOf, senseOf}
 use Rattle.state.proofs.Laid.{Laid, sense-iff}
-use Rattle.steps.specs.declared.State.{State}
-use Rattle.steps.specs.State.{stateOf, senseOf, starting?, resetting}
-use Rattle.steps.specs.Step.{incomplete, unit, tell, Step, refuse, left, hold, reads, come-out, step-by, step}
-use Rattle.steps.specs.Back as Back
-use Rattle.steps.specs.Back.{StepBack, step-back, back-by, alone, after}
+use Rattle.state.specs.declared.Record.{Record}
+use Rattle.steps.specs.Steps.{starting?, resetting}
+use Rattle.units.specs.Width.{left}
+use Rattle.advance.specs.Step.{incomplete, unit, tell, Step, refuse, hold, reads, come-out, step-by, step}
+use Rattle.units.specs.Back as Back
+use Rattle.units.specs.Back.{StepBack, step-back, back-by, alone, after}
 use Rattle.restart.specs.Runs.{Bits, eight, sixteen, thirty-two, width, reading}
 use Rattle.restart.specs.Demand.{Call, to-units, to-bytes, Five, Real, Demand1}
 use Rattle.restart.proofs.States.{sense-state, sense-valid, hold-part, part-hold, reads-on, code-units}
@@ -47,20 +48,20 @@ foreign c x (inr (inr (inl ((u, e), n)))) = rw e n
 foreign c x (inr (inr (inr (inl ((u, e), n))))) = rw e n
 foreign c x (inr (inr (inr (inr ((h, e), n))))) = rw e n
 
-abbrev Takes : Call → State → Type 0
+abbrev Takes : Call → Record → Type 0
 Takes c s = Five c (senseOf plain s) → ⊥
 
-takes : (c : Call) (s : State) (m : Meaning) → senseOf plain s ≡ valid m → (Foreign c (valid m) → ⊥) → Takes c s
+takes : (c : Call) (s : Record) (m : Meaning) → senseOf plain s ≡ valid m → (Foreign c (valid m) → ⊥) → Takes c s
 takes c s m e o f = o (subst (Foreign c) e (foreign c (senseOf plain s) f))
 
-takes-start : (c : Call) → Takes c (stateOf starting)
-takes-start c = takes c (stateOf starting) starting (sense-state starting tt) (λ f. f)
+takes-start : (c : Call) → Takes c (recordOf starting)
+takes-start c = takes c (recordOf starting) starting (sense-state starting tt) (λ f. f)
 
-takes-hold : (b : Bits) (s : State) (h : List ℕ) → senseOf plain s ≡ valid (hold h) → Takes (to-units b) s
+takes-hold : (b : Bits) (s : Record) (h : List ℕ) → senseOf plain s ≡ valid (hold h) → Takes (to-units b) s
 takes-hold b s [] e = takes (to-units b) s starting e (λ f. f)
 takes-hold b s (x ∷ h) e = takes (to-units b) s (held (x ∷ h)) e (λ f. clash cc)
 
-takes-left : (b : Bits) (us : List ℕ) → Valid plain (left (width b) us) → Takes (to-units b) (stateOf (left (width b) us))
+takes-left : (b : Bits) (us : List ℕ) → Valid plain (left (width b) us) → Takes (to-units b) (recordOf (left (width b) us))
 takes-left b [] v = takes-start (to-units b)
 takes-left eight (u ∷ us) v = takes (to-units eight) _ (trail (u ∷ us)) (sense-state (trail (u ∷ us)) v) (λ f. f refl)
 takes-left sixteen (u ∷ us) v = takes (to-units sixteen) _ (low u) (sense-state (low u) v) (λ f. f refl)
@@ -68,12 +69,12 @@ takes-left thirty-two (u ∷ us) v = takes-start (to-units thirty-two)
 
 -- ---- a call in the state s that gives x, where `no` is the refusal
 
-record Kept {X : Type 0} (number : X → ℕ) (next : X → State) (no : X) (c : Call) (s : State) (x : X) : Type 0 where
+record Kept {X : Type 0} (number : X → ℕ) (next : X → Record) (no : X) (c : Call) (s : Record) (x : X) : Type 0 where
   refused : (number x ≡ 5) ↔ Five c (senseOf plain s)
   untouched : number x ≡ 5 → x ≡ no
   accepted : (number x ≡ 5 → ⊥) → Takes c (next x)
 
-module _ {X : Type 0} {number : X → ℕ} {next : X → State} {no : X} {c : Call} {s : State} where
+module _ {X : Type 0} {number : X → ℕ} {next : X → Record} {no : X} {c : Call} {s : Record} where
   is-refused : number no ≡ 5 → Five c (senseOf plain s) → Kept number next no c s no
   is-refused n f = record { refused = (λ e. f, λ e. n); untouched = λ e. refl; accepted = λ h. absurd (h n) }
 
@@ -82,12 +83,12 @@ module _ {X : Type 0} {number : X → ℕ} {next : X → State} {no : X} {c : Ca
 
 -- ---- the reading steps
 
-abbrev Keeps : Bits → State → Step → Type 0
+abbrev Keeps : Bits → Record → Step → Type 0
 Keeps b s x = Kept (λ (y : Step). y .answer .number) (λ (y : Step). y .next) (refuse s) (to-units b) s x
 
-record Reading (b : Bits) (s : State) (x : Step) : Type 0 where
+record Reading (b : Bits) (s : Record) (x : Step) : Type 0 where
   kept : Keeps b s x
-  bad : x .answer .number ≡ 3 → (x .answer .consumed ≡ 0) × (x .next ≡ stateOf starting)
+  bad : x .answer .number ≡ 3 → (x .answer .consumed ≡ 0) × (x .next ≡ recordOf starting)
   told : x .answer .held ≤ 3
   consumes : x .answer .name ≡ unit → (1 ≤ x .answer .consumed) × (x .answer .consumed ≤ 4)
 
@@ -95,7 +96,7 @@ few : (h : List ℕ) → Valid plain (hold h) → length h ≤ 3
 few [] v = omega arith
 few (x ∷ h) v = omega (arith, plain-scans .shorter (x ∷ h) v)
 
-module _ (b : Bits) (s : State) where
+module _ (b : Bits) (s : Record) where
   -- neither bad nor a unit
   other : (x : Step) → Keeps b s x → (x .answer .number ≡ 3 → ⊥) → x .answer .held ≡ 0 → (x .answer .name ≡ unit → ⊥) → Reading b s x
   other x k n h u = record { kept = k; bad = λ e. absurd (n e); told = omega arith; consumes = λ e. absurd (u e) }
@@ -143,7 +144,7 @@ module _ (b : Bits) (s : State) where
               consumes = λ k. ends c n w l;
             })
 
-turn : (b : Bits) (s : State) (i : List ℕ) → Reading b s (reading b s i)
+turn : (b : Bits) (s : Record) (i : List ℕ) → Reading b s (reading b s i)
 unfolding step
 turn b s i = go b (senseOf plain s) refl
   where
@@ -166,12 +167,12 @@ turn b s i = go b (senseOf plain s) refl
 
 -- ---- the step back
 
-record ReadingBack (s : State) (x : StepBack) : Type 0 where
+record ReadingBack (s : Record) (x : StepBack) : Type 0 where
   kept : Kept (λ (y : StepBack). y .answer .number) (λ (y : StepBack). y .next) (Back.refuse s) to-bytes s x
-  bad : x .answer .number ≡ 3 → (x .answer .count ≡ 0) × (x .next ≡ stateOf starting)
+  bad : x .answer .number ≡ 3 → (x .answer .count ≡ 0) × (x .next ≡ recordOf starting)
   told : x .answer .held ≤ 1
 
-module _ (s : State) where
+module _ (s : Record) where
   refuses-back : Five to-bytes (senseOf plain s) → ReadingBack s (Back.refuse s)
   refuses-back f = record { kept = is-refused refl f; bad = λ e. absurd (omega arith); told = omega arith }
 
@@ -189,7 +190,7 @@ module _ (s : State) where
   second-unit h u true q t = rw q (to-start _ t (λ e. omega arith) (λ e. absurd (omega arith)) (omega arith))
   second-unit h u false q t = rw q (to-start _ t (λ e. omega arith) (λ e. refl) (omega arith))
 
-turn-back : (s : State) (u : ℕ) → ReadingBack s (step-back s u)
+turn-back : (s : Record) (u : ℕ) → ReadingBack s (step-back s u)
 unfolding step-back
 turn-back s u = go (senseOf plain s) refl
   where
@@ -203,14 +204,14 @@ turn-back s u = go (senseOf plain s) refl
 
 -- ---- one meaning has one state
 
-one-state : (m : Meaning) (s : State) → Real s → (senseOf plain s ≡ valid m) ↔ ((s ≡ stateOf m) × Valid plain m)
-unfolding stateOf senseOf
+one-state : (m : Meaning) (s : Record) → Real s → (senseOf plain s ≡ valid m) ↔ ((s ≡ recordOf m) × Valid plain m)
+unfolding recordOf senseOf
 one-state m s r = (λ e. there (sense-iff plain-scans m (s .kind) (s .count) (s .bytes) (r .0) (r .1) .0 e), λ (e, v). ap (senseOf plain) e ∙ sense-state m v)
   where
-    there : Laid m (s .kind) (s .count) (s .bytes) × Valid plain m → (s ≡ stateOf m) × Valid plain m
+    there : Laid m (s .kind) (s .count) (s .bytes) × Valid plain m → (s ≡ recordOf m) × Valid plain m
     there (l, v) = (rw (sym (l .kind), sym (l .count), sym (l .clear)) refl, v)
 
-is-starting : (s : State) → Real s → (starting? (senseOf plain s) ≡ true) ↔ (s ≡ stateOf starting)
+is-starting : (s : Record) → Real s → (starting? (senseOf plain s) ≡ true) ↔ (s ≡ recordOf starting)
 is-starting s r = (λ e. one-state starting s r .0 (go (senseOf plain s) e) .0, λ e. ap starting? (one-state starting s r .1 (e, tt)))
   where
     go : (x : Sense) → starting? x ≡ true → x ≡ valid starting
@@ -221,7 +222,7 @@ is-starting s r = (λ e. one-state starting s r .0 (go (senseOf plain s) e) .0, 
     go (valid (low u)) e = cc
     go (valid (high u)) e = cc
 
-idle : (b : Bits) (s : State) (h : List ℕ) → Real s → senseOf plain s ≡ valid (hold h) → reading b s [] ≡ record { answer = tell incomplete 2 0 0 0; next = s }
+idle : (b : Bits) (s : Record) (h : List ℕ) → Real s → senseOf plain s ≡ valid (hold h) → reading b s [] ≡ record { answer = tell incomplete 2 0 0 0; next = s }
 idle b s h r e = let (z, v) = one-state (hold h) s r .0 e in reads-on b s h [] e ∙ rw (append-nil h, hold-part h v, append-nil h, sym z) refl
 
 pub demand1 : Demand1

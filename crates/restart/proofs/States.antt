@@ -12,19 +12,19 @@ use Rattle.form.proofs.Utf8.{plain-scans, plain-pattern}
 use Rattle.form.proofs.Sequences.{plain-scalar}
 use Rattle.utf16.specs.Utf16.{utf16}
 use Rattle.utf16.proofs.Laws.{Coded, alone, pair, scalar-units}
-use Rattle.state.specs.Meaning.{Meaning, Valid, valid}
+use Rattle.state.specs.Meaning.{Meaning, Valid, valid, recordOf, senseOf}
 use Rattle.state.proofs.Laid.{laid-sense, sense-shows}
-use Rattle.steps.specs.declared.State.{State}
-use Rattle.steps.specs.State.{stateOf, senseOf}
-use Rattle.steps.specs.Step.{left, hold, reads, step}
+use Rattle.state.specs.declared.Record.{Record}
+use Rattle.units.specs.Width.{left}
+use Rattle.advance.specs.Step.{hold, reads, step}
 use Rattle.restart.specs.Runs.{Bits, eight, sixteen, thirty-two, width, reading}
 
 -- the state of a valid meaning has that meaning, and what a state means is valid
-pub sense-state : (m : Meaning) → Valid plain m → senseOf plain (stateOf m) ≡ valid m
-unfolding stateOf senseOf
+pub sense-state : (m : Meaning) → Valid plain m → senseOf plain (recordOf m) ≡ valid m
+unfolding recordOf senseOf
 sense-state m v = laid-sense plain-scans m v
 
-pub sense-valid : (s : State) (m : Meaning) → senseOf plain s ≡ valid m → Valid plain m
+pub sense-valid : (s : Record) (m : Meaning) → senseOf plain s ≡ valid m → Valid plain m
 unfolding senseOf
 sense-valid s m e = sense-shows plain-scans m (s .kind) (s .count) (s .bytes) e .valid
 
@@ -40,7 +40,7 @@ part-hold [] e = tt
 part-hold (b ∷ h) e = plain-scans .finds-part (b ∷ h) (omega arith) .0 e
 
 -- a state that holds bytes, or is the starting state, reads on
-pub reads-on : (b : Bits) (s : State) (h i : List ℕ) → senseOf plain s ≡ valid (hold h) → reading b s i ≡ reads (width b) h i (scan plain (h ++ i))
+pub reads-on : (b : Bits) (s : Record) (h i : List ℕ) → senseOf plain s ≡ valid (hold h) → reading b s i ≡ reads (width b) h i (scan plain (h ++ i))
 unfolding step
 reads-on b s [] i e = rw e refl
 reads-on b s (x ∷ h) i e = rw e refl

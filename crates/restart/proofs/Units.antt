@@ -16,12 +16,12 @@ use Rattle.form.proofs.Utf8.{plain-scans, plain-pattern, scalar-below}
 use Rattle.form.proofs.Sequences.{scalar-outside, plain-scalar, pattern-bytes}
 use Rattle.utf16.specs.Utf16.{highs, lows, utf16, paired}
 use Rattle.utf16.proofs.Laws.{Coded, alone, pair, scalar-units}
-use Rattle.state.specs.Meaning.{Meaning, starting, held, trail, low, high, Valid, valid}
-use Rattle.steps.specs.declared.State.{State}
-use Rattle.steps.specs.State.{stateOf, senseOf}
-use Rattle.steps.specs.Step.{continuation, Told, tell, to, left, reads, step}
-use Rattle.steps.specs.Back as Back
-use Rattle.steps.specs.Back.{step-back}
+use Rattle.state.specs.Meaning.{Meaning, starting, held, trail, low, high, Valid, valid, recordOf, senseOf}
+use Rattle.state.specs.declared.Record.{Record}
+use Rattle.units.specs.Width.{left}
+use Rattle.advance.specs.Step.{continuation, Told, tell, to, reads, step}
+use Rattle.units.specs.Back as Back
+use Rattle.units.specs.Back.{step-back}
 use Rattle.restart.specs.Runs.{Bits, eight, sixteen, thirty-two, width, reading, answers, state-after, bytes-back, state-back}
 use Rattle.restart.specs.Packets.{start}
 use Rattle.restart.proofs.States.{sense-state, sense-valid, reads-on, Units, code-units}
@@ -48,7 +48,7 @@ due sixteen (high u) = none
 due thirty-two m = none
 
 -- a call brings the first of them, and the others stay
-comes : {b : Bits} {m : Meaning} {u : ℕ} {us : List ℕ} (s : State) (i : List ℕ) → Due b m (u ∷ us) → senseOf plain s ≡ valid m
+comes : {b : Bits} {m : Meaning} {u : ℕ} {us : List ℕ} (s : Record) (i : List ℕ) → Due b m (u ∷ us) → senseOf plain s ≡ valid m
     → reading b s i ≡ to (tell continuation 0 u 0 0) (left (width b) us)
 unfolding step
 comes s i (some vs) e = rw e refl
@@ -60,11 +60,11 @@ others {us = x ∷ us} (some vs) v = (some (x ∷ us), ((omega arith, omega arit
 others (one u) v = (none, tt)
 
 -- where none are left the state is the starting state
-left-none : (b : Bits) (us : List ℕ) → us ≡ [] → stateOf (left (width b) us) ≡ start
+left-none : (b : Bits) (us : List ℕ) → us ≡ [] → recordOf (left (width b) us) ≡ start
 left-none b us e = rw e refl
 
 -- they come out of as many calls
-out : (us : List ℕ) (b : Bits) (m : Meaning) (s : State) (is : List (List ℕ)) → Due b m us → senseOf plain s ≡ valid m → length is ≡ length us
+out : (us : List ℕ) (b : Bits) (m : Meaning) (s : Record) (is : List (List ℕ)) → Due b m us → senseOf plain s ≡ valid m → length is ≡ length us
     → (answers b s is ≡ map (λ u. tell continuation 0 u 0 0) us) × ((us ≡ [] → s ≡ start) → state-after b s is ≡ start)
 out [] b m s [] d e l = (refl, λ h. h refl)
 out [] b m s (i ∷ is) d e l = absurd (omega arith)
@@ -72,10 +72,10 @@ out (u ∷ us) b m s [] d e l = absurd (omega arith)
 out (u ∷ us) b m s (i ∷ is) d e l =
     let n = left (width b) us in
     let (q, v) = others d (sense-valid s m e) in
-    let r = out us b n (stateOf n) is q (sense-state n v) (omega arith) in
+    let r = out us b n (recordOf n) is q (sense-state n v) (omega arith) in
     rw (comes s i d e) (ap (λ (t : List Told). tell continuation 0 u 0 0 ∷ t) (r .0), λ h. r .1 (left-none b us))
 
-pub pending : (b : Bits) (s : State) (m : Meaning) (is : List (List ℕ)) → senseOf plain s ≡ valid m → length is ≡ length (width b .due m)
+pub pending : (b : Bits) (s : Record) (m : Meaning) (is : List (List ℕ)) → senseOf plain s ≡ valid m → length is ≡ length (width b .due m)
     → (answers b s is ≡ map (λ u. tell continuation 0 u 0 0) (width b .due m)) × ((1 ≤ length is) → state-after b s is ≡ start)
 pending b s m is e l =
     let r = out (width b .due m) b m s is (due b m) e l in
@@ -106,7 +106,7 @@ code-zero thirty-two = refl
 
 -- its first unit, and the state for the others
 first : (b : Bits) (w : List ℕ) (c : ℕ) → Codes plain w c → (u : Units b c)
-    → (reading b start w .answer .unit ≡ u .first) × (reading b start w .next ≡ stateOf (left (width b) (u .rest)))
+    → (reading b start w .answer .unit ≡ u .first) × (reading b start w .next ≡ recordOf (left (width b) (u .rest)))
 first b w c d u = go (eqb c 0) refl
   where
     found : reading b start w ≡ reads (width b) [] w (well c (length w))
@@ -114,7 +114,7 @@ first b w c d u = go (eqb c 0) refl
         reads-on b start [] w (sense-state starting tt)
         ∙ ap (reads (width b) [] w) (plain-scans .finds-well w c (length w) .1 (rw (take-length w) d, omega arith))
 
-    go : (t : Bool) → eqb c 0 ≡ t → (reading b start w .answer .unit ≡ u .first) × (reading b start w .next ≡ stateOf (left (width b) (u .rest)))
+    go : (t : Bool) → eqb c 0 ≡ t → (reading b start w .answer .unit ≡ u .first) × (reading b start w .next ≡ recordOf (left (width b) (u .rest)))
     go true e =
         let q : 0 ∷ [] ≡ u .first ∷ u .rest = sym (code-zero b) ∙ ap (width b .units) (sym (eqb-true c 0 e)) ∙ u .are in
         let z : u .first ≡ 0 = cc in
@@ -147,7 +147,7 @@ whole b w c is d l =
     let u = code-units b c s in
     let m = left (width b) (u .rest) in
     let (f, n) = first b w c d u in
-    let r = out (u .rest) b m (stateOf m) is (rest-due b c s u) (sense-state m (u .kept)) (omega (arith, ap (length {A = ℕ}) (u .are))) in
+    let r = out (u .rest) b m (recordOf m) is (rest-due b c s u) (sense-state m (u .kept)) (omega (arith, ap (length {A = ℕ}) (u .are))) in
     rw (n, u .are) (ap₂ (λ (x : ℕ) (y : List ℕ). x ∷ y) f (ap (map (λ (t : Told). t .unit)) (r .0) ∙ told-units (u .rest)), r .1 (left-none b (u .rest)))
 
 pub utf8-units : (w : List ℕ) (c : ℕ) → Codes plain w c → width eight .units c ≡ w
@@ -171,7 +171,7 @@ back-high : (h : ℕ) → In highs h → step-back start h ≡ Back.to (Back.tel
 unfolding step-back
 back-high h p = rw (sense-state starting tt, true-in highs h p) refl
 
-back-low : (h l : ℕ) → In highs h → In lows l → step-back (stateOf (high h)) l ≡ Back.to (Back.tell Back.bytes 0 (sequence plain (paired h l)) 0) starting
+back-low : (h l : ℕ) → In highs h → In lows l → step-back (recordOf (high h)) l ≡ Back.to (Back.tell Back.bytes 0 (sequence plain (paired h l)) 0) starting
 unfolding step-back
 back-low h l p q = rw (sense-state (high h) p, true-in lows l q) refl
 

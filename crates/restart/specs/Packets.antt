@@ -6,14 +6,13 @@ use lib.ListN.{length}
 use Rattle.form.specs.Table.{plain, Codes, Scalar}
 use Rattle.form.specs.Text.{sequence}
 use Rattle.utf16.specs.Utf16.{utf16}
-use Rattle.state.specs.Meaning.{Meaning, starting, Valid, valid}
-use Rattle.steps.specs.declared.State.{State}
-use Rattle.steps.specs.State.{stateOf, senseOf}
-use Rattle.steps.specs.Step.{Name, refused, continuation, incomplete, bad-sequence, null, unit, Told, tell, Step, hold}
+use Rattle.state.specs.Meaning.{Meaning, starting, Valid, valid, recordOf, senseOf}
+use Rattle.state.specs.declared.Record.{Record}
+use Rattle.advance.specs.Step.{Name, refused, continuation, incomplete, bad-sequence, null, unit, Told, tell, Step, hold}
 use Rattle.restart.specs.Runs.{Bits, eight, sixteen, thirty-two, width, reading, answers, state-after, bytes-back, state-back, until-decided, total}
 
-abbrev pub start : State
-start = stateOf starting
+abbrev pub start : Record
+start = recordOf starting
 
 abbrev pub heard : Name → ℕ → ℕ → ℕ
 heard refused h n = h
@@ -33,9 +32,9 @@ later n x =
 
 pub record Packets : Type 0 where
   -- with h held the next 4 - h bytes, in any cut into calls, bring an answer other than incomplete
-  pub decided : (b : Bits) (s : State) (h : List ℕ) (is : List (List ℕ)) → senseOf plain s ≡ valid (hold h) → 4 ≤ length h + total is → until-decided b s is .answer .name ≡ incomplete → ⊥
+  pub decided : (b : Bits) (s : Record) (h : List ℕ) (is : List (List ℕ)) → senseOf plain s ≡ valid (hold h) → 4 ≤ length h + total is → until-decided b s is .answer .name ≡ incomplete → ⊥
   -- pending units, at most three of 8 bits and one of 16, come out one a call, whatever the input
-  pub pending : (b : Bits) (s : State) (m : Meaning) (is : List (List ℕ)) → senseOf plain s ≡ valid m → length is ≡ length (width b .due m)
+  pub pending : (b : Bits) (s : Record) (m : Meaning) (is : List (List ℕ)) → senseOf plain s ≡ valid m → length is ≡ length (width b .due m)
       → (answers b s is ≡ map (λ u. tell continuation 0 u 0 0) (width b .due m)) × ((1 ≤ length is) → state-after b s is ≡ start)
   pub pending-few : (b : Bits) (m : Meaning) → Valid plain m → length (width b .due m) ≤ 3
   pub pending-one : (m : Meaning) → length (width sixteen .due m) ≤ 1
@@ -51,6 +50,6 @@ pub record Packets : Type 0 where
   pub there-and-back : (w : List ℕ) (c : ℕ) (is : List (List ℕ)) → Codes plain w c → suc (length is) ≡ length (utf16 c) → bytes-back start (map (λ (t : Told). t .unit) (answers sixteen start (w ∷ is))) ≡ w
   pub back-and-there : (c : ℕ) (is : List (List ℕ)) → Scalar c → suc (length is) ≡ length (utf16 c) → map (λ (t : Told). t .unit) (answers sixteen start (bytes-back start (utf16 c) ∷ is)) ≡ utf16 c
   -- an answer other than incomplete does not change when more bytes follow
-  pub stays : (b : Bits) (s : State) (i j : List ℕ) → (reading b s i .answer .name ≡ incomplete → ⊥) → reading b s (i ++ j) ≡ reading b s i
+  pub stays : (b : Bits) (s : Record) (i j : List ℕ) → (reading b s i .answer .name ≡ incomplete → ⊥) → reading b s (i ++ j) ≡ reading b s i
   -- and an incomplete one goes on to the answer of both inputs together
-  pub goes-on : (b : Bits) (s : State) (i j : List ℕ) → reading b s i .answer .name ≡ incomplete → reading b (reading b s i .next) j ≡ later (length i) (reading b s (i ++ j))
+  pub goes-on : (b : Bits) (s : Record) (i j : List ℕ) → reading b s i .answer .name ≡ incomplete → reading b (reading b s i .next) j ≡ later (length i) (reading b s (i ++ j))

@@ -15,7 +15,8 @@ use Rattle.form.specs.Text.{All, Bytes}
 use Rattle.form.proofs.Rows.{in-true, true-in}
 use Rattle.form.proofs.Laws.{Scans}
 use Rattle.utf16.specs.Utf16.{highs, lows}
-use Rattle.state.specs.Meaning.{Meaning, starting, held, trail, low, high, number, payload, padded, Valid, valid, valid-if, part?, each, unit, meaning, sense}
+use Rattle.state.specs.declared.Record.{Record}
+use Rattle.state.specs.Meaning.{Meaning, starting, held, trail, low, high, number, payload, padded, Valid, valid, valid-if, part?, each, unit, meaning, sense, senseOf}
 use Rattle.state.proofs.Sense.{is-starting, is-held, is-trail, is-low, is-high, is-none, sense-beyond, sense-clear, sense-unclear}
 
 -- ---- tests against what they test
@@ -64,6 +65,17 @@ bytes-unit [] e h = absurd (omega arith)
 bytes-unit (a ∷ []) e h = absurd (omega arith)
 bytes-unit (a ∷ b ∷ []) e h = ap₂ (λ (x y : ℕ). x ∷ y ∷ []) (omega arith) (omega arith)
 bytes-unit (a ∷ b ∷ c ∷ d) e h = absurd (omega arith)
+
+unit-take : (n : ℕ) (d : List ℕ) → 2 ≤ n → unit (take n d) ≡ unit d
+unit-take zero d h = absurd (omega arith)
+unit-take (suc zero) d h = absurd (omega arith)
+unit-take (suc (suc n)) [] h = refl
+unit-take (suc (suc n)) (a ∷ []) h = refl
+unit-take (suc (suc n)) (a ∷ b ∷ d) h = refl
+
+-- a unit of two data bytes is where they stand
+pub unit-where : (n u : ℕ) (places : List ℕ) → n ≤ length places → (length (take n places) ≡ 2) × (unit (take n places) ≡ u) → unit places ≡ u
+unit-where n u places h (l, e) = sym (unit-take n places (omega (arith, length-take-le n places h))) ∙ e
 
 -- ---- the layout of a meaning
 
@@ -160,6 +172,10 @@ module _ {F : Form} (S : Scans F 4) where
           let (p, d, v) = meaning-says k (take n places) m (sym (sense-clear F k n places h q) ∙ e) in
           let z = zeros (drop n places) (each-true (0 to 0) (drop n places) q) in
           record { kind = p; within = h; clear = z ∙ ap (λ (x : ℕ). replicate x 0) (length-drop n places); says = d; valid = v }
+
+  pub shows : (m : Meaning) (s : Record) → senseOf F s ≡ valid m → Shown F m (s .kind) (s .count) (s .bytes)
+  unfolding senseOf
+  shows m s e = sense-shows m (s .kind) (s .count) (s .bytes) e
 
   -- a state is valid exactly where it is the layout of a valid meaning, and then it has that meaning
   pub sense-iff : (m : Meaning) (k n : ℕ) (places : List ℕ) → length places ≡ 14 → Bytes places → (sense F k n places ≡ valid m) ↔ (Laid m k n places × Valid F m)

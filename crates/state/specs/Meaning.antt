@@ -8,6 +8,7 @@ use Rattle.form.specs.Table.{Range, _to_, Form, tail, In, Partial}
 use Rattle.form.specs.Scan.{in?, Found, well, part, bad, scan}
 use Rattle.form.specs.Text.{All}
 use Rattle.utf16.specs.Utf16.{highs, lows}
+use Rattle.state.specs.declared.Record.{Record}
 use Rattle.state.specs.declared.Kind.{Kind}
 use Rattle.state.specs.declared.Kind.the-variants as Kind
 
@@ -36,6 +37,10 @@ payload (high u) = u % 0x100 ∷ u / 0x100 ∷ []
 unfoldable pub padded : List ℕ → List ℕ
 padded d = d ++ replicate (14 - length d) 0
 
+-- the record of a meaning
+unfoldable pub recordOf : Meaning → Record
+recordOf m = record { kind = number m; count = length (payload m); bytes = padded (payload m) }
+
 abbrev pub Valid : Form → Meaning → Type 0
 Valid F starting = Unit {0}
 Valid F (held h) = Partial F h
@@ -43,7 +48,7 @@ Valid F (trail us) = In (1 to 3) (length us) × All (In tail) us
 Valid F (low u) = In lows u
 Valid F (high u) = In highs u
 
--- ---- what a state says. Nobody has to believe `sense`: proofs/Laid ties it to the meanings above
+-- ---- what a record says. Nobody has to believe `sense`: proofs/Laid ties it to the meanings above
 
 pub data Sense : Type 0 where
   invalid : Sense
@@ -78,6 +83,10 @@ meaning F k d =
 -- by the kind's number, the number n of data bytes, and the places for them
 unfoldable pub sense : Form → ℕ → ℕ → List ℕ → Sense
 sense F k n places = cond (leb n (length places) && each (0 to 0) (drop n places)) (meaning F k (take n places)) invalid
+
+-- the meaning of a record, where the bytes held are a partial sequence of this form
+unfoldable pub senseOf : Form → Record → Sense
+senseOf F s = sense F (s .kind) (s .count) (s .bytes)
 
 abbrev pub kindOf : Sense → Kind
 kindOf invalid = Kind.Invalid

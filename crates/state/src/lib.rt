@@ -1,17 +1,25 @@
-// Which conversion states are valid.
+// The record of a conversion state, and which records are valid.
 use classify::Form;
 use classify::Front;
 ghost use mathlib.Core.Path.{_≡_};
 ghost use mathlib.Core.Bool.{_&&_, cond};
-ghost use Prim.Native.Nat.{_+_, _*_};
+ghost use mathlib.Core.List.{[], _∷_};
+ghost use Prim.Native.Nat.{_+_, _-_, _*_, _/_, _%_};
 ghost use lib.Dec.{ltb, eqb};
 ghost use lib.ListN.{length};
 ghost use Rattle.form.specs.Table.{_to_, tail};
 ghost use Rattle.form.specs.Scan.{in?, scan};
 ghost use Rattle.classify.specs.Lead.{rowsOf};
-ghost use Rattle.state.specs.Meaning.{part?, each, unit, meaning, sense, kindOf};
+ghost use Rattle.state.specs.Meaning.{starting, padded, recordOf, part?, each, unit, meaning, senseOf, kindOf};
 
-// Document 01's valid states, in its order: starting; a partial sequence held; 8-bit units pending; a low surrogate pending; a high
+// The kind's number, the number of data bytes, and the places for them, of which the unused ones are zero.
+pub struct Record {
+    pub kind: u8,
+    pub count: u8,
+    pub bytes: [u8; 14],
+}
+
+// Document 01's valid states, in its order, which is that of the numbers from 0: starting; a partial sequence held; 8-bit units pending; a low surrogate pending; a high
 // surrogate held.
 pub enum Kind {
     Starting,
@@ -107,16 +115,55 @@ fn kind_by(form: Form, kind: u8, d: &[u8]) -> Kind
     }
 }
 
-// A state as it is laid out: the kind's number, the number of data bytes, and the places for them, of which the unused ones are zero.
-pub fn kind_of(form: Form, kind: u8, count: u8, bytes: [u8; 14]) -> Kind
-    ensures { λ r. ⌜ r ≡ kindOf (sense (rowsOf form) kind count bytes) ⌝ }
+pub fn kind_of(form: Form, s: Record) -> Kind
+    ensures { λ r. ⌜ r ≡ kindOf (senseOf (rowsOf form) s) ⌝ }
 {
-    let n = count as usize;
+    let n = s.count as usize;
     if 14 < n {
         return Kind::Invalid;
     }
+    let bytes = s.bytes;
     if all_in(&bytes[n..], 0, 0) {
-        return kind_by(form, kind, &bytes[..n]);
+        return kind_by(form, s.kind, &bytes[..n]);
     }
     Kind::Invalid
+}
+
+// The starting state.
+pub fn start() -> Record
+    ensures { λ r. ⌜ r ≡ recordOf starting ⌝ }
+{
+    Record {
+        kind: 0,
+        count: 0,
+        bytes: [0; 14],
+    }
+}
+
+// Up to four 8-bit units, once the first of them is out.
+pub fn after_first(count: u8, b1: u8, b2: u8, b3: u8) -> Record
+    ensures { λ r. ⌜ r ≡ cond (ltb count 2) (recordOf starting) (record { kind = 2; count = count - 1; bytes = padded (b1 ∷ b2 ∷ b3 ∷ []) }) ⌝ }
+{
+    if count < 2 {
+        return start();
+    }
+    Record {
+        kind: 2,
+        count: count - 1,
+        bytes: [b1, b2, b3, 0, 0, 0, 0, 0, 0, 0, 0, 0, 0, 0],
+    }
+}
+
+// A 16-bit unit, pending or held.
+pub fn of_unit(kind: u8, u: u16) -> Record
+    ensures { λ r. ⌜ r ≡ record { kind = kind; count = 2; bytes = padded (u % 0x100 ∷ u / 0x100 ∷ []) } ⌝ }
+{
+    let mut bytes: [u8; 14] = [0; 14];
+    bytes[0] = (u % 0x100) as u8;
+    bytes[1] = (u / 0x100) as u8;
+    Record {
+        kind,
+        count: 2,
+        bytes,
+    }
 }

@@ -1,4 +1,0 @@
-pub mod Senses
-pub mod Splits
-pub mod Windows
-pub mod Advances

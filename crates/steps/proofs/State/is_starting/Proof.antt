@@ -5,8 +5,8 @@ use borrow.Author.Needs.{needs}
 use Rattle.form.specs.Table.{plain}
 use Rattle.state.specs.declared.Kind.{Kind}
 use Rattle.state.specs.declared.Kind.the-variants.{Starting, Partial, Trail, Low, High, Invalid}
-use Rattle.state.specs.Meaning.{starting, held, trail, low, high, Sense, invalid, valid, kindOf}
-use Rattle.steps.specs.State.{senseOf, starting?}
+use Rattle.state.specs.Meaning.{starting, held, trail, low, high, Sense, invalid, valid, senseOf, kindOf}
+use Rattle.steps.specs.Steps.{starting?}
 use Rattle.steps.proofs.State.is_starting.Statement.{statement}
 use Rattle.steps.proofs.State.is_starting.Tie as tie
 
@@ -27,8 +27,8 @@ kind-starts (valid (low u)) = refl
 kind-starts (valid (high u)) = refl
 
 -- the kind found is k
-at-kind : (q : tie.After-kind-in) (k : Kind) → q .kind-in .result ≡ k → starts k ≡ starting? (senseOf plain (q .before .args .self))
-at-kind q k e = ap starts (sym e ∙ q .kind-in .ensures) ∙ kind-starts (senseOf plain (q .before .args .self))
+at-kind : (q : tie.After-kind-of) (k : Kind) → q .kind-of .result ≡ k → starts k ≡ starting? (senseOf plain (q .before .before .args .self .raw))
+at-kind q k e = ap starts (sym e ∙ q .kind-of .ensures) ∙ kind-starts (senseOf plain (q .before .before .args .self .raw))
 
 pub is-starting-spec : {M : Type 1} → statement M
 is-starting-spec =

@@ -1,7 +1,7 @@
 -- Assumes nothing.
 use mathlib.Core.Path.{refl}
 use borrow.Author.Needs.{needs}
-use Rattle.steps.specs.State.{resetting}
+use Rattle.steps.specs.Steps.{resetting}
 use Rattle.steps.proofs.State.reset.Statement.{statement}
 use Rattle.steps.proofs.State.reset.Tie as tie
 

@@ -1,37 +1,47 @@
 -- Each arm finishes the reading for wide codes. Assumes nothing.
-use mathlib.Core.Path.{_≡_}
+use mathlib.Core.Path.{_≡_, refl, sym, ap, _∙_, subst}
 use borrow.Author.Needs.{needs}
 use lib.ListN.{length}
 use Rattle.form.specs.Table.{plain}
-use Rattle.steps.specs.declared.Reading.{Reading}
-use Rattle.steps.specs.Step.{width32, stepOf, step}
-use Rattle.steps.specs.Advance.{finishes}
-use Rattle.steps.proofs.Advances.{given}
+use Rattle.units.specs.Width.{width32}
+use Rattle.advance.specs.declared.Reading.{Reading}
+use Rattle.steps.specs.Steps.{stepOf}
+use Rattle.advance.specs.Advance.{Says}
+use Rattle.advance.proofs.From.{step-is}
 use Rattle.steps.proofs.State.step32.Statement.{statement}
 use Rattle.steps.proofs.State.step32.Tie as tie
 
 abbrev start : tie.After-advance → tie.Start
-start q = q .before .before
+start q = q .before .before .before
 
-at : (q : tie.After-advance) (x : Reading) → q .advance .result .reading ≡ x
-    → finishes width32 (length (start q .args .input .now)) x (q .advance .result .next) ≡ step plain width32 (start q .args .self) (start q .args .input .now)
-at q x e = given plain width32 (start q .args .self) (start q .args .input .now) (q .advance .result) x (q .advance .ensures) e
+-- the reading is x
+says : (q : tie.After-advance) (x : Reading) → q .advance .result .reading ≡ x → Says plain (start q .args .self .raw) (start q .args .input .now) x (q .advance .result .next)
+says q x e = subst (λ (y : Reading). Says plain (start q .args .self .raw) (start q .args .input .now) y (q .advance .result .next)) e (q .advance .ensures)
 
 returns : tie.Need-returns
 unfolding stepOf
-returns c = rw (c .answered .ensures) (at (c .before .before .before .before .before) _ (c .before .before .r .given .1))
+returns c = rw (c .answered .ensures) (sym (says (c .before .before .before .before .before) _ (c .before .before .reading .given .1) width32))
 
 returns-2 : tie.Need-returns-2
 unfolding stepOf
-returns-2 c = rw (c .answered2 .ensures) (at (c .before .before .before .before) _ (c .before .enum-told .given .1))
+returns-2 c =
+    let q = c .before .before .before .before in
+    let (us, (e, t)) = says q _ (c .before .enum-told .given .1) in
+    rw (c .answered2 .ensures) (sym (step-is plain width32 (start q .args .self .raw) (start q .args .input .now) _ e))
 
 returns-3 : tie.Need-returns-3
 unfolding stepOf
-returns-3 c = rw (c .answered3 .ensures) (at (c .before .before .before .before) _ (c .before .enum-told2 .given .1))
+returns-3 c =
+    let q = c .before .before .before .before in
+    let (e, t) = says q _ (c .before .enum-told2 .given .1) in
+    rw (c .answered3 .ensures) (sym (step-is plain width32 (start q .args .self .raw) (start q .args .input .now) _ e))
 
 returns-4 : tie.Need-returns-4
 unfolding stepOf
-returns-4 c = rw (c .answered4 .ensures, c .before .starting .ensures) (at (c .before .before .before .before .before .before) _ (c .before .before .before .r2 .given .1))
+returns-4 c =
+    let q = c .before .before .before .before .before in
+    let (k, t) = says q _ (c .before .before .reading2 .given .1) in
+    rw (c .answered4 .ensures, t) (sym (k width32))
 
 pub step32-spec : {M : Type 1} → statement M
 step32-spec =
@@ -45,7 +55,6 @@ step32-spec =
     (λ c. search needs)
     (λ c κs. search needs)
     (λ c. search needs)
-    (λ c κs. search needs)
     (λ c κs. search needs)
     returns
     returns-2

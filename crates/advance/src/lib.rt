@@ -1,0 +1,133 @@
+// What the reading steps share: held bytes, advanced over the input.
+use classify::Form;
+use classify::Front;
+use state::Kind;
+use state::Record;
+ghost use mathlib.Core.Path.{_≡_};
+ghost use Prim.Native.Nat.{_+_, _≤_, min};
+ghost use lib.Seq.{paste};
+ghost use Rattle.classify.specs.Lead.{rowsOf};
+ghost use Rattle.advance.specs.Advance.{Advances, Holding, taken};
+
+// What a reading step answers. Refused: the state is not one of this step's. Continuation: a pending unit. Incomplete: all input is
+// consumed. Bad: how many bytes had been held. Null: code 0, one byte consumed. Unit: the first unit of a code, and the bytes consumed.
+pub enum Answer {
+    Refused,
+    Continuation(u32),
+    Incomplete,
+    Bad(u8),
+    Null,
+    Unit(u32, usize),
+}
+
+// Before the width counts. Done: the answer of every width. Trail, Low: the pending unit that comes out, if the step is of its width. Code:
+// a code above 0, and the bytes consumed.
+pub enum Reading {
+    Done(Answer),
+    Trail(u8),
+    Low(u16),
+    Code(u32, usize),
+}
+
+// The next state: after Code that before the code's units, after Trail and Low that once the unit is out.
+pub struct Advanced {
+    pub reading: Reading,
+    pub next: Record,
+}
+
+// The bytes held, and after them the first of the input.
+struct Window {
+    bytes: [u8; 14],
+    count: usize,
+}
+
+fn least(a: usize, b: usize) -> usize
+    ensures { λ r. ⌜ r ≡ min a b ⌝ }
+{
+    if a < b {
+        return a;
+    }
+    b
+}
+
+// Four bytes decide, in every form.
+fn gather(held: [u8; 14], n: usize, input: &[u8]) -> Window
+    requires { ⌜ n ≤ 4 ⌝ }
+    ensures { λ r. ⌜ r ≡ record { bytes = paste held n (now (input .entry)) (taken n (now (input .entry))); count = n + taken n (now (input .entry)) } ⌝ }
+{
+    let m = least(4 - n, input.len());
+    let mut bytes = held;
+    let mut i = 0;
+    while i < m {
+        bytes[n + i] = input[i];
+        i += 1;
+    }
+    Window {
+        bytes,
+        count: n + m,
+    }
+}
+
+fn done(answer: Answer, next: Record) -> Advanced
+    ensures { λ r. ⌜ r ≡ record { reading = Reading.Done answer; next = next } ⌝ }
+{
+    Advanced {
+        reading: Reading::Done(answer),
+        next,
+    }
+}
+
+// The bytes held, and the input.
+fn read(form: Form, s: Record, input: &[u8]) -> Advanced
+    requires { ⌜ Holding (rowsOf form) s ⌝ }
+    ensures { λ r. ⌜ Advances (rowsOf form) s (now (input .entry)) r ⌝ }
+{
+    let held = s.bytes;
+    let n = s.count as usize;
+    let w = gather(held, n, input);
+    let bytes = w.bytes;
+    let k = w.count;
+    match classify::front_of(form, &bytes[..k]) {
+        Front::Partial(_) => {
+            if k == 0 {
+                return done(Answer::Incomplete, state::start());
+            }
+            let next = Record {
+                kind: 1,
+                count: k as u8,
+                bytes,
+            };
+            done(Answer::Incomplete, next)
+        }
+        Front::Bad(_) => done(Answer::Bad(s.count), state::start()),
+        Front::Well(c, m) => {
+            if c == 0 {
+                return done(Answer::Null, state::start());
+            }
+            Advanced {
+                reading: Reading::Code(c, m - n),
+                next: state::start(),
+            }
+        }
+    }
+}
+
+pub fn advance(form: Form, s: Record, input: &[u8]) -> Advanced
+    ensures { λ r. ⌜ Advances (rowsOf form) s (now (input .entry)) r ⌝ }
+{
+    let b = s.bytes;
+    match state::kind_of(form, s) {
+        Kind::Starting => read(form, s, input),
+        Kind::Partial => read(form, s, input),
+        Kind::Trail => Advanced {
+            reading: Reading::Trail(b[0]),
+            next: state::after_first(s.count, b[1], b[2], b[3]),
+        },
+        Kind::Low => Advanced {
+            reading: Reading::Low(state::unit_of(b[0], b[1])),
+            next: state::start(),
+        },
+        Kind::High => done(Answer::Refused, s),
+        Kind::Invalid => done(Answer::Refused, s),
+    }
+}

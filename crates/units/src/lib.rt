@@ -1,0 +1,106 @@
+// Codes and their units: the first unit of a code with the state for the others, and what 16-bit units give back.
+use classify::Form;
+use state::Record;
+ghost use mathlib.Core.Path.{_≡_};
+ghost use mathlib.Core.List.{[], _∷_};
+ghost use Rattle.form.specs.Table.{plain};
+ghost use Rattle.form.specs.Text.{sequence};
+ghost use Rattle.state.specs.Meaning.{starting};
+ghost use Rattle.units.specs.Width.{width8, width16, splitOf};
+ghost use Rattle.units.specs.Back.{bytes, backOf, tell, to, alone, after};
+
+// The first unit of a code, and the state for the others.
+pub struct Split {
+    pub first: u32,
+    pub rest: Record,
+}
+
+// What a 16-bit unit gives. Held: the unit is held. Bytes: they stand beside the answer. Bad: how many units had been held.
+pub enum Back {
+    Refused,
+    Held,
+    Bytes,
+    Bad(u8),
+}
+
+// The answer, its bytes and how many, and the next state; unused places are zero.
+pub struct Written {
+    pub answer: Back,
+    pub count: usize,
+    pub bytes: [u8; 4],
+    pub next: Record,
+}
+
+pub fn split8(c: u32) -> Split
+    ensures { λ r. ⌜ r ≡ splitOf width8 c ⌝ }
+{
+    let w = encode::bytes_of(Form::Plain, c);
+    let b = w.bytes;
+    Split {
+        first: b[0] as u32,
+        rest: state::after_first(w.count as u8, b[1], b[2], b[3]),
+    }
+}
+
+pub fn split16(c: u32) -> Split
+    ensures { λ r. ⌜ r ≡ splitOf width16 c ⌝ }
+{
+    let w = utf16::units_of(c);
+    let u = w.units;
+    if w.count < 2 {
+        return Split {
+            first: u[0] as u32,
+            rest: state::start(),
+        };
+    }
+    Split {
+        first: u[0] as u32,
+        rest: state::of_unit(3, u[1]),
+    }
+}
+
+// The sequence of a code.
+fn bytes_back(c: u32) -> Written
+    ensures { λ r. ⌜ backOf r ≡ to (tell bytes 0 (sequence plain c) 0) starting ⌝ }
+{
+    let w = encode::bytes_of(Form::Plain, c);
+    let bytes = w.bytes;
+    Written {
+        answer: Back::Bytes,
+        count: w.count,
+        bytes,
+        next: state::start(),
+    }
+}
+
+pub fn no_bytes(answer: Back, next: Record) -> Written
+    ensures { λ r. ⌜ r ≡ record { answer = answer; count = 0; bytes = 0 ∷ 0 ∷ 0 ∷ 0 ∷ []; next = next } ⌝ }
+{
+    Written {
+        answer,
+        count: 0,
+        bytes: [0; 4],
+        next,
+    }
+}
+
+// A unit after nothing.
+pub fn back_alone(u: u16) -> Written
+    ensures { λ r. ⌜ backOf r ≡ alone u ⌝ }
+{
+    match u {
+        0xD800..=0xDBFF => no_bytes(Back::Held, state::of_unit(4, u)),
+        0xDC00..=0xDFFF => no_bytes(Back::Bad(0), state::start()),
+        _ => bytes_back(u as u32),
+    }
+}
+
+// A unit after the high surrogate h.
+pub fn back_after(h: u16, u: u16) -> Written
+    ensures { λ r. ⌜ backOf r ≡ after h u ⌝ }
+{
+    match u {
+        0xDC00..=0xDFFF => bytes_back(utf16::code_of_pair(h, u)),
+        _ => no_bytes(Back::Bad(1), state::start()),
+    }
+}
