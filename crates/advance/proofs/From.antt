@@ -1,23 +1,21 @@
 -- What each kind of state is to the reading steps. Assumes nothing.
-use mathlib.Core.Path.{_≡_, refl, sym, ap, _∙_, subst}
+use mathlib.Core.Path.{_≡_, refl, sym, ap, _∙_}
 use mathlib.Core.Bool.{cond}
 use mathlib.Core.List.{List, [], _∷_, _++_}
-use Prim.Native.Nat.{ℕ, zero, suc, _-_, _≤_}
+use Prim.Native.Nat.{ℕ, _-_, _≤_}
 use native.Mathlib.Omega.{arith}
 use lib.Dec.{ltb}
-use lib.ListN.{length, take, drop, getD}
+use lib.ListN.{length, drop, getD}
 use lib.Seq.{length-take-le}
 use Rattle.form.specs.Table.{Form}
 use Rattle.form.specs.Scan.{part, scan}
 use Rattle.form.proofs.Laws.{Scans}
-use Rattle.state.specs.Meaning.{Meaning, starting, held, trail, low, high, Sense, invalid, valid, padded, recordOf, senseOf, unit}
+use Rattle.state.specs.Meaning.{starting, held, trail, low, high, Sense, invalid, valid, padded, recordOf, senseOf, unit}
 use Rattle.units.specs.Width.{Width}
-use Rattle.units.proofs.Splits.{Pads, trail-pads, rest-state}
-use Rattle.state.proofs.Laid.{Shown, part-held, unit-where, shows}
+use Rattle.units.proofs.Splits.{trail-pads, rest-state}
+use Rattle.state.proofs.Laid.{part-held, unit-where, shows}
 use Rattle.state.specs.declared.Record.{Record}
-use Rattle.advance.specs.declared.Advanced.{Advanced}
 use Rattle.advance.specs.declared.Answer.the-variants.{Refused}
-use Rattle.advance.specs.declared.Reading.{Reading}
 use Rattle.advance.specs.declared.Reading.the-variants.{Done, Trail, Low}
 use Rattle.advance.specs.Step.{reads, step-by, step}
 use Rattle.advance.specs.Advance.{Says, Holding}

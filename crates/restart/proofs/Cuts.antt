@@ -12,13 +12,13 @@ use Rattle.form.specs.Table.{plain}
 use Rattle.form.specs.Scan.{Found, well, part, bad, scan}
 use Rattle.form.specs.Pattern.{pattern}
 use Rattle.form.proofs.Utf8.{plain-scans, plain-pattern, plain-decodes}
-use Rattle.state.specs.Meaning.{starting, held, trail, low, high, Valid, Sense, invalid, valid, senseOf}
+use Rattle.state.specs.Meaning.{starting, held, trail, low, high, Sense, invalid, valid, senseOf}
 use Rattle.state.specs.declared.Record.{Record}
 use Rattle.units.specs.Width.{Width}
 use Rattle.advance.specs.Step.{Name, refused, continuation, incomplete, bad-sequence, null, unit, tell, Step, to, hold, convert, reads, come-out, step}
 use Rattle.restart.specs.Runs.{Bits, width, reading, going-on, until-decided, total}
 use Rattle.restart.specs.Packets.{later}
-use Rattle.restart.proofs.States.{sense-state, sense-valid, part-hold, reads-on}
+use Rattle.restart.proofs.States.{sense-state, sense-valid, part-hold, few, reads-on}
 
 -- ---- a state either holds bytes, perhaps none, or its answer is settled before the input
 
@@ -131,16 +131,12 @@ goes-on b s i j n = go (reader b s)
         ∙ together (width b) h i j x (w .parts) refl
         ∙ sym (ap (later (length i)) (found-both b s h i j x e refl))
 
--- ---- a partial sequence has at most three bytes
-
-short : (h : List ℕ) → Valid plain (hold h) → length h ≤ 3
-short [] v = omega arith
-short (x ∷ h) v = omega (arith, plain-scans .shorter (x ∷ h) v)
+-- ---- calls until the sequence is decided
 
 -- after a call x whose answer has the name n
 decided-from : (is : List (List ℕ)) (b : Bits) (x : Step) (n : Name) (h : List ℕ) → named x ≡ n → (n ≡ incomplete → senseOf plain (x .next) ≡ valid (hold h))
     → 4 ≤ length h + total is → named (going-on b x n is) ≡ incomplete → ⊥
-decided-from [] b x n h e f l g = omega (arith, short h (sense-valid (x .next) (hold h) (f (sym e ∙ g))))
+decided-from [] b x n h e f l g = omega (arith, few h (sense-valid (x .next) (hold h) (f (sym e ∙ g))))
 decided-from (i ∷ is) b x incomplete h e f l g =
     let s = x .next in
     decided-from is b (reading b s i) (named (reading b s i)) (h ++ i) refl (λ q. waits b s h i (f refl) q .after) (omega (arith, length-append h i)) g

@@ -5,10 +5,9 @@ use mathlib.Core.Bool.{Bool, true, false}
 use mathlib.Core.List.{List, [], _∷_, _++_, append-nil}
 use Prim.Native.Nat.{ℕ, _-_, _≤_}
 use native.Mathlib.Omega.{arith}
-use native.Mathlib.Decide.{decLe}
 use lib.Dec.{eqb}
 use lib.ListN.{length, take}
-use lib.Seq.{length-take-le, take-append-le}
+use lib.Seq.{length-take-le}
 use Rattle.form.specs.Table.{plain, Codes}
 use Rattle.form.specs.Scan.{in?, Found, well, part, bad, scan}
 use Rattle.form.proofs.Rows.{in-true}
@@ -23,9 +22,10 @@ use Rattle.units.specs.Width.{left}
 use Rattle.advance.specs.Step.{incomplete, unit, tell, Step, refuse, hold, reads, come-out, step-by, step}
 use Rattle.units.specs.Back as Back
 use Rattle.units.specs.Back.{StepBack, step-back, back-by, alone, after}
+use Rattle.advance.proofs.Windows.{ends-after}
 use Rattle.restart.specs.Runs.{Bits, eight, sixteen, thirty-two, width, reading}
 use Rattle.restart.specs.Demand.{Call, to-units, to-bytes, Five, Real, Demand1}
-use Rattle.restart.proofs.States.{sense-state, sense-valid, hold-part, part-hold, reads-on, code-units}
+use Rattle.restart.proofs.States.{sense-state, sense-valid, hold-part, part-hold, few, reads-on, code-units}
 
 clash : {A : Type 0} → _≡_ {A = ℕ} 0 1 → A
 clash e = absurd (omega arith)
@@ -92,10 +92,6 @@ record Reading (b : Bits) (s : Record) (x : Step) : Type 0 where
   told : x .answer .held ≤ 3
   consumes : x .answer .name ≡ unit → (1 ≤ x .answer .consumed) × (x .answer .consumed ≤ 4)
 
-few : (h : List ℕ) → Valid plain (hold h) → length h ≤ 3
-few [] v = omega arith
-few (x ∷ h) v = omega (arith, plain-scans .shorter (x ∷ h) v)
-
 module _ (b : Bits) (s : Record) where
   -- neither bad nor a unit
   other : (x : Step) → Keeps b s x → (x .answer .number ≡ 3 → ⊥) → x .answer .held ≡ 0 → (x .answer .name ≡ unit → ⊥) → Reading b s x
@@ -111,13 +107,9 @@ module _ (b : Bits) (s : Record) where
     -- what is held is no sequence, so that one that is found ends in the input
     ends : (c n : ℕ) → Codes plain (take n (h ++ i)) c → n ≤ length (h ++ i) → (1 ≤ n - length h) × (n - length h ≤ 4)
     unfolding plain
-    ends c n w l = (past (decLe n (length h)), omega (arith, codes-length 4 plain (take n (h ++ i)) c tt w, length-take-le n (h ++ i) l))
-      where
-        past : Dec (n ≤ length h) → 1 ≤ n - length h
-        past (no m) = omega arith
-        past (yes m) =
-            let v : Codes plain (take n h) c = subst (λ (y : List ℕ). Codes plain y c) (take-append-le n h i m) w in
-            clash (cc (hold-part h (sense-valid s (hold h) e), plain-scans .finds-well h c n .1 (v, m)))
+    ends c n w l =
+        let p = ends-after plain-scans h i c n (hold-part h (sense-valid s (hold h) e)) (plain-scans .finds-well (h ++ i) c n .1 (w, l)) in
+        (omega arith, omega (arith, codes-length 4 plain (take n (h ++ i)) c tt w, length-take-le n (h ++ i) l))
 
     found : (x : Found) → scan plain (h ++ i) ≡ x → Reading b s (reads (width b) h i x)
     found part f =

@@ -1,8 +1,9 @@
 -- The states that steps take and hand back. Assumes nothing.
 use mathlib.Core.Path.{_≡_, refl}
 use mathlib.Core.List.{List, [], _∷_, _++_}
-use Prim.Native.Nat.{ℕ}
+use Prim.Native.Nat.{ℕ, _≤_}
 use native.Mathlib.Omega.{arith}
+use lib.ListN.{length}
 use Rattle.form.specs.Table.{plain, Scalar}
 use Rattle.form.specs.Scan.{part, scan}
 use Rattle.form.specs.Pattern.{pattern}
@@ -38,6 +39,10 @@ hold-part (b ∷ h) v = plain-scans .finds-part (b ∷ h) (omega arith) .1 v
 pub part-hold : (h : List ℕ) → scan plain h ≡ part → Valid plain (hold h)
 part-hold [] e = tt
 part-hold (b ∷ h) e = plain-scans .finds-part (b ∷ h) (omega arith) .0 e
+
+pub few : (h : List ℕ) → Valid plain (hold h) → length h ≤ 3
+few [] v = omega arith
+few (b ∷ h) v = omega (arith, plain-scans .shorter (b ∷ h) v)
 
 -- a state that holds bytes, or is the starting state, reads on
 pub reads-on : (b : Bits) (s : Record) (h i : List ℕ) → senseOf plain s ≡ valid (hold h) → reading b s i ≡ reads (width b) h i (scan plain (h ++ i))

@@ -16,7 +16,7 @@ use Rattle.advance.specs.declared.Window.{Window}
 use Rattle.advance.specs.declared.Advanced.{Advanced}
 use Rattle.advance.specs.declared.Answer.the-variants.{Incomplete, Bad, Null}
 use Rattle.advance.specs.declared.Reading.{Reading}
-use Rattle.advance.specs.declared.Reading.the-variants.{Done, Code}
+use Rattle.advance.specs.declared.Reading.the-variants.{Done}
 use Rattle.advance.specs.Advance.{Advances, used, taken}
 use Rattle.advance.proofs.Windows.{seen, reads-none, reads-some, reads-bad, reads-null, reads-code, code-after}
 use Rattle.advance.proofs.read.Statement.{statement}
