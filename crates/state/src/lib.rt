@@ -19,8 +19,8 @@ pub struct Record {
     pub bytes: [u8; 14],
 }
 
-// Document 01's valid states, in its order, which is that of the numbers from 0: starting; a partial sequence held; 8-bit units pending; a low surrogate pending; a high
-// surrogate held.
+// Document 01's valid states, numbered from 0 in its order: starting; a partial sequence held; 8-bit units pending; a low surrogate
+// pending; a high surrogate held.
 pub enum Kind {
     Starting,
     Partial,

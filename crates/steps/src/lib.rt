@@ -9,7 +9,7 @@ use units::Written;
 ghost use mathlib.Core.Path.{_≡_};
 ghost use lib.ListN.{length};
 ghost use Rattle.form.specs.Table.{plain};
-ghost use Rattle.state.specs.Meaning.{starting, recordOf, senseOf};
+ghost use Rattle.state.specs.Meaning.{senseOf};
 ghost use Rattle.units.specs.Width.{width8, width16, width32};
 ghost use Rattle.units.specs.Back.{backOf, step-back};
 ghost use Rattle.advance.specs.Step.{step};
@@ -62,14 +62,6 @@ fn written(w: Written) -> SteppedBack
 }
 
 impl State {
-    pub fn starting() -> Self
-        ensures { λ r. ⌜ r .raw ≡ recordOf starting ⌝ }
-    {
-        State {
-            raw: state::start(),
-        }
-    }
-
     pub fn is_starting(self) -> bool
         ensures { λ r. ⌜ r ≡ starting? (senseOf plain (self .raw)) ⌝ }
     {
@@ -88,9 +80,10 @@ impl State {
     pub fn reset(self) -> Reset
         ensures { λ r. ⌜ r ≡ resetting ⌝ }
     {
+        let raw = state::start();
         Reset {
             number: 0,
-            next: State::starting(),
+            next: State { raw },
         }
     }
 
@@ -107,8 +100,8 @@ impl State {
             Reading::Low(_) => answered(Answer::Refused, s),
             Reading::Code(c, n) => {
                 let w = units::split8(c);
-                let rest = w.rest;
-                answered(Answer::Unit(w.first, n), rest)
+                let trail = w.rest;
+                answered(Answer::Unit(w.first, n), trail)
             }
         }
     }
@@ -126,8 +119,8 @@ impl State {
             Reading::Low(u) => answered(Answer::Continuation(u as u32), next),
             Reading::Code(c, n) => {
                 let w = units::split16(c);
-                let rest = w.rest;
-                answered(Answer::Unit(w.first, n), rest)
+                let low = w.rest;
+                answered(Answer::Unit(w.first, n), low)
             }
         }
     }
@@ -135,14 +128,14 @@ impl State {
     pub fn step32(self, input: &[u8]) -> Stepped
         ensures { λ r. ⌜ stepOf (length (now (input .entry))) r ≡ step plain width32 (self .raw) (now (input .entry)) ⌝ }
     {
-        let s = self.raw;
-        let a = advance::advance(Form::Plain, s, input);
+        let was = self.raw;
+        let a = advance::advance(Form::Plain, was, input);
         let reading = a.reading;
         let next = a.next;
         match reading {
             Reading::Done(answer) => answered(answer, next),
-            Reading::Trail(_) => answered(Answer::Refused, s),
-            Reading::Low(_) => answered(Answer::Refused, s),
+            Reading::Trail(_) => answered(Answer::Refused, was),
+            Reading::Low(_) => answered(Answer::Refused, was),
             Reading::Code(c, n) => answered(Answer::Unit(c, n), next),
         }
     }
@@ -155,11 +148,11 @@ impl State {
         let b = s.bytes;
         match state::kind_of(Form::Plain, s) {
             Kind::Starting => written(units::back_alone(u)),
-            Kind::Partial => written(units::no_bytes(Back::Refused, s)),
-            Kind::Trail => written(units::no_bytes(Back::Refused, s)),
-            Kind::Low => written(units::no_bytes(Back::Refused, s)),
+            Kind::Partial => written(units::refused(s)),
+            Kind::Trail => written(units::refused(s)),
+            Kind::Low => written(units::refused(s)),
             Kind::High => written(units::back_after(state::unit_of(b[0], b[1]), u)),
-            Kind::Invalid => written(units::no_bytes(Back::Refused, s)),
+            Kind::Invalid => written(units::refused(s)),
         }
     }
 }

@@ -7,7 +7,7 @@ ghost use Rattle.form.specs.Table.{plain};
 ghost use Rattle.form.specs.Text.{sequence};
 ghost use Rattle.state.specs.Meaning.{starting};
 ghost use Rattle.units.specs.Width.{width8, width16, splitOf};
-ghost use Rattle.units.specs.Back.{bytes, backOf, tell, to, alone, after};
+ghost use Rattle.units.specs.Back.{bytes, backOf, tell, to, refuse, alone, after};
 
 // The first unit of a code, and the state for the others.
 pub struct Split {
@@ -73,7 +73,7 @@ fn bytes_back(c: u32) -> Written
     }
 }
 
-pub fn no_bytes(answer: Back, next: Record) -> Written
+fn no_bytes(answer: Back, next: Record) -> Written
     ensures { λ r. ⌜ r ≡ record { answer = answer; count = 0; bytes = 0 ∷ 0 ∷ 0 ∷ 0 ∷ []; next = next } ⌝ }
 {
     Written {
@@ -82,6 +82,13 @@ pub fn no_bytes(answer: Back, next: Record) -> Written
         bytes: [0; 4],
         next,
     }
+}
+
+// A unit in a state that is not the step back's.
+pub fn refused(s: Record) -> Written
+    ensures { λ r. ⌜ backOf r ≡ refuse s ⌝ }
+{
+    no_bytes(Back::Refused, s)
 }
 
 // A unit after nothing.

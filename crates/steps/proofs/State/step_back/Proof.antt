@@ -1,17 +1,11 @@
 -- Each arm is what that kind is to the step back. Assumes nothing.
-use mathlib.Core.Path.{_≡_, refl, sym, ap, _∙_}
-use mathlib.Core.List.{[], _∷_}
+use mathlib.Core.Path.{_≡_, sym, ap, _∙_}
 use Prim.Native.Nat.{ℕ}
 use borrow.Author.Needs.{needs}
 use Rattle.form.specs.Table.{plain}
 use Rattle.form.proofs.Utf8.{plain-scans}
 use Rattle.state.specs.declared.Kind.{Kind}
 use Rattle.state.specs.Meaning.{Sense, valid, high, senseOf}
-use Rattle.units.specs.declared.Back.the-variants.{Refused}
-use Rattle.units.specs.declared.Written.{Written}
-use Rattle.steps.specs.declared.SteppedBack.{SteppedBack}
-use Rattle.steps.specs.Steps.{writtenOf}
-use Rattle.units.specs.Back as Back
 use Rattle.units.specs.Back.{backOf, after, back-by, step-back}
 use Rattle.state.proofs.Kept.{Is, told-is}
 use Rattle.state.proofs.Laid.{shows, unit-where}
@@ -28,14 +22,6 @@ at : (s : tie.Start) (x : Sense) → senseOf plain (s .args .self .raw) ≡ x �
 unfolding step-back
 at s x e = ap (λ (y : Sense). back-by y (s .args .self .raw) (s .args .u)) (sym e)
 
--- nothing is written, and the state stays
-refused : (q : tie.After-kind-of) (r : SteppedBack) (w : Written) (x : Sense) → writtenOf r ≡ w
-    → w ≡ record { answer = Refused; count = 0; bytes = 0 ∷ 0 ∷ 0 ∷ 0 ∷ []; next = start q .args .self .raw }
-    → senseOf plain (start q .args .self .raw) ≡ x → back-by x (start q .args .self .raw) (start q .args .u) ≡ Back.refuse (start q .args .self .raw)
-    → backOf (writtenOf r) ≡ step-back (start q .args .self .raw) (start q .args .u)
-unfolding backOf
-refused q r w x f g e h = ap backOf (f ∙ g) ∙ sym h ∙ at (start q) x e
-
 returns : tie.Need-returns
 returns c =
     let q = c .before .before .before .before in
@@ -44,17 +30,17 @@ returns c =
 returns-2 : tie.Need-returns-2
 returns-2 c =
     let q = c .before .before .before .before in
-    refused q _ _ _ (c .written2 .ensures) (c .before .no-bytes .ensures) (is q _ (c .before .before .enum-told2 .given .1) .1) refl
+    ap backOf (c .written2 .ensures) ∙ c .before .refused .ensures ∙ at (start q) _ (is q _ (c .before .before .enum-told2 .given .1) .1)
 
 returns-3 : tie.Need-returns-3
 returns-3 c =
     let q = c .before .before .before .before in
-    refused q _ _ _ (c .written3 .ensures) (c .before .no-bytes2 .ensures) (is q _ (c .before .before .enum-told3 .given .1) .1) refl
+    ap backOf (c .written3 .ensures) ∙ c .before .refused2 .ensures ∙ at (start q) _ (is q _ (c .before .before .enum-told3 .given .1) .1)
 
 returns-4 : tie.Need-returns-4
 returns-4 c =
     let q = c .before .before .before .before in
-    refused q _ _ _ (c .written4 .ensures) (c .before .no-bytes3 .ensures) (is q _ (c .before .before .enum-told4 .given .1) .1) refl
+    ap backOf (c .written4 .ensures) ∙ c .before .refused3 .ensures ∙ at (start q) _ (is q _ (c .before .before .enum-told4 .given .1) .1)
 
 returns-5 : tie.Need-returns-5
 returns-5 c =
@@ -68,7 +54,7 @@ returns-5 c =
 returns-6 : tie.Need-returns-6
 returns-6 c =
     let q = c .before .before .before .before in
-    refused q _ _ _ (c .written6 .ensures) (c .before .no-bytes4 .ensures) (is q _ (c .before .before .enum-told6 .given .1)) refl
+    ap backOf (c .written6 .ensures) ∙ c .before .refused4 .ensures ∙ at (start q) _ (is q _ (c .before .before .enum-told6 .given .1))
 
 pub step-back-spec : {M : Type 1} → statement M
 step-back-spec =
