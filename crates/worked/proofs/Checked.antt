@@ -10,10 +10,13 @@ use Rattle.form.proofs.Utf8.{plain-scans, plain-run, plain-demand3}
 use Rattle.decode.specs.Reading.{stopped, follow, decoding}
 use Rattle.encode.specs.Writing as Writing
 use Rattle.encode.specs.Writing.{refuses, bytes, after, encoding}
+use Rattle.utf16.specs.Utf16.{utf16}
+use Rattle.state.specs.Meaning.{padded, recordOf, meaning, sense, senseOf}
+use Rattle.advance.specs.Step.{step}
 use Rattle.worked.specs.Lines.{Lines}
 
 pub lines : Lines
-unfolding plain surro flagsOf reader-refuses writer-refuses stopped follow decoding Writing.stopped refuses bytes after encoding
+unfolding plain surro flagsOf reader-refuses writer-refuses stopped follow decoding Writing.stopped refuses bytes after encoding utf16 padded recordOf meaning sense senseOf step
 lines =
     record {
       none = refl;
@@ -37,4 +40,6 @@ lines =
           let e : All Escape l = ((omega arith, omega arith), ((omega arith, omega arith), ((omega arith, omega arith), tt))) in
           let w : WellFormed plain (map unescape l) = (0x2032, plain-scans .finds-well (map unescape l) 0x2032 3 .0 refl .0) in
           h .1 [] l [] refl (plain-run l e w) e w;
+      droplet-units = (refl, refl);
+      run = (refl, refl);
     }

@@ -1,5 +1,5 @@
 -- The idle programs of "What a promise must not let through": each differs from the definition at an input named here, or fails demand 3. Assumes nothing.
-use mathlib.Core.Path.{_≡_, sym, ap, _∙_}
+use mathlib.Core.Path.{_≡_, refl, sym, ap, _∙_}
 use mathlib.Core.List.{List, [], _∷_, _++_}
 use Prim.Native.Nat.{ℕ, _≤_}
 use native.Mathlib.Omega.{arith}
@@ -11,6 +11,11 @@ use Rattle.decode.specs.Reading.{stopped, follow, decoding}
 use Rattle.encode.specs.Writing as Writing
 use Rattle.encode.specs.Writing.{refuses, bytes, after, encoding}
 use Rattle.roundtrip.specs.Demand.{Writes, needs}
+use Rattle.utf16.specs.Utf16.{utf16}
+use Rattle.state.specs.Meaning.{padded, recordOf, meaning, sense, senseOf}
+use Rattle.advance.specs.Step.{incomplete, unit, step}
+use Rattle.restart.specs.Runs.{Bits, eight, sixteen, thirty-two, reading}
+use Rattle.restart.specs.Packets.{start}
 
 abbrev first : List ℕ → ℕ
 first l = getD l 0 0
@@ -50,3 +55,10 @@ copier h = let e : _≡_ {A = ℕ} 0xDC80 0x80 = ap first (h (0x80 ∷ []) (omeg
 pub copied : ((s : List ℕ) (w : ℕ) → Bytes s → needs s ≤ w → Writes w s s) → ⊥
 unfolding plain writer-refuses flagsOf Writing.stopped refuses bytes after encoding
 copied h = let e : _≡_ {A = ℕ} 0xC2 0x80 = ap first (h (0x80 ∷ []) 2 (omega arith, tt) (omega arith) .2) in omega arith
+
+-- a step that converts its first sequence and then only repeats incomplete: after 34 comes 30
+pub repeats-incomplete : (b : Bits) → ((i j : List ℕ) → reading b start i .answer .name ≡ unit → reading b (reading b start i .next) j .answer .name ≡ incomplete) → ⊥
+unfolding plain utf16 padded recordOf meaning sense senseOf step
+repeats-incomplete eight h = let e : unit ≡ incomplete = h (0x34 ∷ []) (0x30 ∷ []) refl in let z : _≡_ {A = ℕ} 0 1 = cc in omega arith
+repeats-incomplete sixteen h = let e : unit ≡ incomplete = h (0x34 ∷ []) (0x30 ∷ []) refl in let z : _≡_ {A = ℕ} 0 1 = cc in omega arith
+repeats-incomplete thirty-two h = let e : unit ≡ incomplete = h (0x34 ∷ []) (0x30 ∷ []) refl in let z : _≡_ {A = ℕ} 0 1 = cc in omega arith

@@ -6,6 +6,9 @@ use lib.ListN.{length}
 use Rattle.decode.specs.Reading.{decoding}
 use Rattle.encode.specs.Writing.{encoding}
 use Rattle.roundtrip.specs.Demand.{CleanList}
+use Rattle.advance.specs.Step.{continuation, incomplete, unit, Told, tell}
+use Rattle.restart.specs.Runs.{sixteen, answers, state-after}
+use Rattle.restart.specs.Packets.{start}
 
 -- flag numbers
 abbrev LAST : ℕ
@@ -25,6 +28,10 @@ Gives flags s l = decoding flags (length s) s ≡ record { number = 0; consumed 
 abbrev pub Writes : ℕ → List ℕ → List ℕ → Type 0
 Writes w l s = encoding 0 w l ≡ record { number = 0; consumed = length l; written = s }
 
+-- from the starting state and back to it, the 16-bit step gives these answers to these inputs
+abbrev pub Run : List (List ℕ) → List Told → Type 0
+Run is l = (answers sixteen start is ≡ l) × (state-after sixteen start is ≡ start)
+
 pub record Lines : Type 0 where
   pub none : Gives LAST [] []
   pub null : Gives LAST (0x00 ∷ []) (0x0 ∷ [])
@@ -43,3 +50,9 @@ pub record Lines : Type 0 where
   pub prime-written : Writes 3 (0x2032 ∷ []) (0xE2 ∷ 0x80 ∷ 0xB2 ∷ [])
   pub prime-clean : CleanList (0x2032 ∷ [])
   pub escapes-unclean : CleanList (0xDCE2 ∷ 0xDC80 ∷ 0xDCB2 ∷ []) → ⊥
+  -- the droplet as 16-bit units
+  pub droplet-units : Run ((0xF0 ∷ 0x9F ∷ 0x92 ∷ 0xA7 ∷ []) ∷ [] ∷ []) (tell unit 0 0xD83D 4 0 ∷ tell continuation 0 0xDCA7 0 0 ∷ [])
+  -- the 16-bit step, whole run
+  pub run :
+      Run ((0xF0 ∷ 0x9F ∷ []) ∷ (0x92 ∷ 0xA7 ∷ []) ∷ [] ∷ [] ∷ [])
+      (tell incomplete 2 0 2 0 ∷ tell unit 0 0xD83D 2 0 ∷ tell continuation 0 0xDCA7 0 0 ∷ tell incomplete 2 0 0 0 ∷ [])
