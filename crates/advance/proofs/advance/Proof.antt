@@ -8,7 +8,7 @@ use Rattle.classify.proofs.Forms.{form-scans, form-nil}
 use Rattle.state.specs.declared.Kind.{Kind}
 use Rattle.state.specs.Meaning.{low, valid, senseOf}
 use Rattle.advance.specs.Advance.{Advances}
-use Rattle.state.proofs.Kept.{Is, told-is}
+use Rattle.state.proofs.Told.{Is, told-is}
 use Rattle.advance.proofs.From.{holding-start, holding-held, from-trail, from-low, from-high, from-invalid}
 use Rattle.advance.proofs.advance.Statement.{statement}
 use Rattle.advance.proofs.advance.Tie as tie

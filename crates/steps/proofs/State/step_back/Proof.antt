@@ -7,7 +7,7 @@ use Rattle.form.proofs.Utf8.{plain-scans}
 use Rattle.state.specs.declared.Kind.{Kind}
 use Rattle.state.specs.Meaning.{Sense, valid, high, senseOf}
 use Rattle.units.specs.Back.{backOf, after, back-by, step-back}
-use Rattle.state.proofs.Kept.{Is, told-is}
+use Rattle.state.proofs.Told.{Is, told-is}
 use Rattle.state.proofs.Laid.{shows, unit-where}
 use Rattle.steps.proofs.State.step_back.Statement.{statement}
 use Rattle.steps.proofs.State.step_back.Tie as tie
