@@ -10,6 +10,7 @@ use lib.Seq.{take-length, take-take, take-append-seam}
 use borrow.Author.Tests.{eqb-true}
 use Rattle.form.specs.Table.{plain, In, Codes, Scalar}
 use Rattle.form.specs.Scan.{well}
+use Rattle.form.specs.Pattern.{pattern}
 use Rattle.form.specs.Text.{sequence}
 use Rattle.form.proofs.Rows.{true-in, false-in}
 use Rattle.form.proofs.Utf8.{plain-scans, plain-pattern, scalar-below}
@@ -104,23 +105,32 @@ code-zero eight = refl
 code-zero sixteen = refl
 code-zero thirty-two = refl
 
+found : (b : Bits) (w : List ℕ) (c : ℕ) → Codes plain w c → reading b start w ≡ reads (width b) [] w (well c (length w))
+found b w c d =
+    reads-on b start [] w (sense-state starting tt) ∙ ap (reads (width b) [] w) (plain-scans .finds-well w c (length w) .1 (rw (take-length w) d, omega arith))
+
+pub consumes : (b : Bits) (w : List ℕ) (c : ℕ) → Codes plain w c → reading b start w .answer .consumed ≡ length w
+unfolding pattern
+consumes b w c d = go (eqb c 0) refl
+  where
+    go : (t : Bool) → eqb c 0 ≡ t → reading b start w .answer .consumed ≡ length w
+    go true e =
+        let z : w ≡ 0 ∷ [] = plain-pattern w c .0 d .1 ∙ ap pattern (eqb-true c 0 e) in
+        rw (found b w c d, e) (sym (ap (length {A = ℕ}) z))
+    go false e = rw (found b w c d, e) (omega arith)
+
 -- its first unit, and the state for the others
 first : (b : Bits) (w : List ℕ) (c : ℕ) → Codes plain w c → (u : Units b c)
     → (reading b start w .answer .unit ≡ u .first) × (reading b start w .next ≡ recordOf (left (width b) (u .rest)))
 first b w c d u = go (eqb c 0) refl
   where
-    found : reading b start w ≡ reads (width b) [] w (well c (length w))
-    found =
-        reads-on b start [] w (sense-state starting tt)
-        ∙ ap (reads (width b) [] w) (plain-scans .finds-well w c (length w) .1 (rw (take-length w) d, omega arith))
-
     go : (t : Bool) → eqb c 0 ≡ t → (reading b start w .answer .unit ≡ u .first) × (reading b start w .next ≡ recordOf (left (width b) (u .rest)))
     go true e =
         let q : 0 ∷ [] ≡ u .first ∷ u .rest = sym (code-zero b) ∙ ap (width b .units) (sym (eqb-true c 0 e)) ∙ u .are in
         let z : u .first ≡ 0 = cc in
         let r : u .rest ≡ [] = cc in
-        rw (found, e, z, r) (refl, refl)
-    go false e = rw (found, e, u .are) (refl, refl)
+        rw (found b w c d, e, z, r) (refl, refl)
+    go false e = rw (found b w c d, e, u .are) (refl, refl)
 
 -- the others are due in that state
 rest-due : (b : Bits) (c : ℕ) → Scalar c → (u : Units b c) → Due b (left (width b) (u .rest)) (u .rest)

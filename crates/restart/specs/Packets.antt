@@ -14,19 +14,20 @@ use Rattle.restart.specs.Runs.{Bits, eight, sixteen, thirty-two, width, 
 abbrev pub start : Record
 start = recordOf starting
 
-abbrev pub heard : Name → ℕ → ℕ → ℕ
-heard refused h n = h
-heard continuation h n = h
-heard incomplete h n = h
-heard bad-sequence h n = h + n
-heard null h n = h
-heard unit h n = h
+-- a bad answer tells the bytes that came before this call as held
+abbrev pub held-later : Name → ℕ → ℕ → ℕ
+held-later refused h n = h
+held-later continuation h n = h
+held-later incomplete h n = h
+held-later bad-sequence h n = h + n
+held-later null h n = h
+held-later unit h n = h
 
--- the same answer and state, where n bytes of the input came before this call: they are not consumed in it, and a bad answer tells them as held
+-- the same answer and state, where n bytes of the input came before this call and are not consumed in it
 abbrev pub later : ℕ → Step → Step
 later n x =
     record {
-      answer = tell (x .answer .name) (x .answer .number) (x .answer .unit) (x .answer .consumed - n) (heard (x .answer .name) (x .answer .held) n);
+      answer = tell (x .answer .name) (x .answer .number) (x .answer .unit) (x .answer .consumed - n) (held-later (x .answer .name) (x .answer .held) n);
       next = x .next;
     }
 
@@ -38,9 +39,10 @@ pub record Packets : Type 0 where
       → (answers b s is ≡ map (λ u. tell continuation 0 u 0 0) (width b .due m)) × ((1 ≤ length is) → state-after b s is ≡ start)
   pub pending-few : (b : Bits) (m : Meaning) → Valid plain m → length (width b .due m) ≤ 3
   pub pending-one : (m : Meaning) → length (width sixteen .due m) ≤ 1
-  -- from the start the units of a well-formed sequence are its UTF-8, its UTF-16 or its code, in order
+  -- from the start the units of a well-formed sequence are its UTF-8, its UTF-16 or its code, in order, and the first call consumes it
   pub whole : (b : Bits) (w : List ℕ) (c : ℕ) (is : List (List ℕ)) → Codes plain w c → suc (length is) ≡ length (width b .units c)
       → (map (λ (t : Told). t .unit) (answers b start (w ∷ is)) ≡ width b .units c) × (state-after b start (w ∷ is) ≡ start)
+  pub consumes : (b : Bits) (w : List ℕ) (c : ℕ) → Codes plain w c → reading b start w .answer .consumed ≡ length w
   pub utf8-units : (w : List ℕ) (c : ℕ) → Codes plain w c → width eight .units c ≡ w
   pub utf16-units : (c : ℕ) → width sixteen .units c ≡ utf16 c
   pub code-units : (c : ℕ) → width thirty-two .units c ≡ c ∷ []

@@ -41,6 +41,7 @@ padded d = d ++ replicate (14 - length d) 0
 unfoldable pub recordOf : Meaning → Record
 recordOf m = record { kind = number m; count = length (payload m); bytes = padded (payload m) }
 
+-- what each may hold
 abbrev pub Valid : Form → Meaning → Type 0
 Valid F starting = Unit {0}
 Valid F (held h) = Partial F h
