@@ -1,0 +1,22 @@
+-- No more vectors are counted than bytes. Assumes nothing.
+use Prim.Native.Nat.{_+_, _-_, _≤_}
+use native.Mathlib.Omega.{arith}
+use lib.ListN.{length}
+use borrow.Author.Needs.{needs}
+use Rattle.runs.proofs.lines.Statement.{statement}
+use Rattle.runs.proofs.lines.Tie as tie
+
+abbrev Inv-loop : tie.InvT-loop
+Inv-loop «data» at₀ count₀ at count = (at ≤ length «data» + 1) × (count ≤ at)
+
+abbrev μ-loop : tie.MeasureT-loop
+μ-loop «data» at₀ count₀ at count = length «data» + 1 - at
+
+pub lines-spec : {M : Type 1} → statement M
+lines-spec =
+    tie.close
+    (tie.spec Inv-loop μ-loop (λ c. (omega arith, omega arith)) (λ c κs. omega arith) (λ c. search needs) (λ c. search needs)
+    (λ c. search needs) (λ c κs. search needs) (λ c. omega (arith, c .line .ensures)) (λ c. search needs)
+    (λ c. omega (arith, c .before .before .until .ensures .0, c .before .before .until .ensures .1))
+    (λ c. (omega (arith, c .before .before .until .ensures .1), omega (arith, c .line .ensures, c .before .before .until .ensures .0)))
+    (λ c. search needs))
