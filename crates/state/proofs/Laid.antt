@@ -162,7 +162,7 @@ module _ {F : Form} (S : Scans F 4) where
   meaning-says (suc (suc (suc (suc (suc k))))) d m e =
       let z : _≡_ {A = ℕ} 0 1 = cc (is-none F (suc (suc (suc (suc (suc k))))) d (omega arith)) in absurd (omega arith)
 
-  pub sense-shows : (m : Meaning) (k n : ℕ) (places : List ℕ) → sense F k n places ≡ valid m → Shown F m k n places
+  sense-shows : (m : Meaning) (k n : ℕ) (places : List ℕ) → sense F k n places ≡ valid m → Shown F m k n places
   sense-shows m k n places e = go (decLe n (length places)) (each (0 to 0) (drop n places)) refl
     where
       go : Dec (n ≤ length places) → (u : Bool) → each (0 to 0) (drop n places) ≡ u → Shown F m k n places
