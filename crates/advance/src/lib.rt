@@ -93,7 +93,7 @@ fn read(form: Form, s: Record, input: &[u8]) -> Advanced
                 return done(Answer::Incomplete, state::start());
             }
             let next = Record {
-                kind: 1,
+                kind: state::PARTIAL,
                 count: k as u8,
                 bytes,
             };

@@ -19,8 +19,18 @@ pub struct Record {
     pub bytes: [u8; 14],
 }
 
-// Document 01's valid states, numbered from 0 in its order: starting; a partial sequence held; 8-bit units pending; a low surrogate
-// pending; a high surrogate held.
+// The numbers of document 01's valid states, in its order: starting; a partial sequence held; 8-bit units pending; a low surrogate pending;
+// a high surrogate held.
+pub const STARTING: u8 = 0;
+
+pub const PARTIAL: u8 = 1;
+
+pub const TRAIL: u8 = 2;
+
+pub const LOW: u8 = 3;
+
+pub const HIGH: u8 = 4;
+
 pub enum Kind {
     Starting,
     Partial,
@@ -106,11 +116,11 @@ fn kind_by(form: Form, kind: u8, d: &[u8]) -> Kind
     ensures { λ r. ⌜ r ≡ kindOf (meaning (rowsOf form) kind (now (d .entry))) ⌝ }
 {
     match kind {
-        0 => kind_if(d.len() == 0, Kind::Starting),
-        1 => kind_if(is_partial(form, d), Kind::Partial),
-        2 => kind_if(is_trail(d), Kind::Trail),
-        3 => kind_if(is_unit(d, 0xDC00, 0xDFFF), Kind::Low),
-        4 => kind_if(is_unit(d, 0xD800, 0xDBFF), Kind::High),
+        STARTING => kind_if(d.len() == 0, Kind::Starting),
+        PARTIAL => kind_if(is_partial(form, d), Kind::Partial),
+        TRAIL => kind_if(is_trail(d), Kind::Trail),
+        LOW => kind_if(is_unit(d, 0xDC00, 0xDFFF), Kind::Low),
+        HIGH => kind_if(is_unit(d, 0xD800, 0xDBFF), Kind::High),
         _ => Kind::Invalid,
     }
 }
@@ -134,7 +144,7 @@ pub fn start() -> Record
     ensures { λ r. ⌜ r ≡ recordOf starting ⌝ }
 {
     Record {
-        kind: 0,
+        kind: STARTING,
         count: 0,
         bytes: [0; 14],
     }
@@ -148,7 +158,7 @@ pub fn after_first(count: u8, b1: u8, b2: u8, b3: u8) -> Record
         return start();
     }
     Record {
-        kind: 2,
+        kind: TRAIL,
         count: count - 1,
         bytes: [b1, b2, b3, 0, 0, 0, 0, 0, 0, 0, 0, 0, 0, 0],
     }

@@ -55,7 +55,7 @@ pub fn split16(c: u32) -> Split
     }
     Split {
         first: u[0] as u32,
-        rest: state::of_unit(3, u[1]),
+        rest: state::of_unit(state::LOW, u[1]),
     }
 }
 
@@ -96,7 +96,7 @@ pub fn back_alone(u: u16) -> Written
     ensures { λ r. ⌜ backOf r ≡ alone u ⌝ }
 {
     match u {
-        0xD800..=0xDBFF => no_bytes(Back::Held, state::of_unit(4, u)),
+        0xD800..=0xDBFF => no_bytes(Back::Held, state::of_unit(state::HIGH, u)),
         0xDC00..=0xDFFF => no_bytes(Back::Bad(0), state::start()),
         _ => bytes_back(u as u32),
     }
