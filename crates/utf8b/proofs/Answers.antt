@@ -1,0 +1,40 @@
+-- The answer and the report of an entry. Assumes nothing.
+use mathlib.Core.Path.{_≡_, refl, sym, ap, _∙_}
+use mathlib.Core.List.{List, [], _++_}
+use Prim.Native.Nat.{ℕ, _+_, _/_, _%_, _≤_, _<_}
+use native.Mathlib.Omega.{arith}
+use lib.Dec.{eqb}
+use lib.IntN.{ℤ, pos, negℤ}
+use lib.ListN.{length, take, drop}
+use lib.Seq.{drop-drop, drop-length}
+use borrow.Author.Tests.{eq-eqb, ne-eqb, le-leb}
+use Rattle.decode.specs.Reading.{decoding}
+use Rattle.encode.specs.Writing.{encoding}
+use Rattle.utf8b.specs.Bytes.{low-first, laid, codesOf, over}
+use Rattle.utf8b.specs.Entry.{Entry, entry, answerOf, given, decode-entry, encode-entry}
+
+-- two writes of four bytes are the whole report
+pub reported : (n : ℕ) (r a b : List ℕ) → n ≤ 1048576 → length r ≡ 8 → a ≡ take 0 r ++ low-first 4 n ++ drop (0 + 4) r → b ≡ take 4 a ++ low-first 4 0 ++ drop (4 + 4) a
+    → b ≡ low-first 8 n
+reported n r a b h e p q =
+    let z : n / 256 / 256 / 256 / 256 ≡ 0 = omega arith in
+    let d : drop 4 (drop 4 r) ≡ [] = drop-drop 4 4 r ∙ ap (λ (k : ℕ). drop k r) (sym e) ∙ drop-length r in
+    q ∙ rw p (rw (z, d) refl)
+
+-- refused flags: nothing was written
+pub refuses : (q k n : ℕ) (w d r p : List ℕ) → q ≡ 4 → w ≡ [] → p ≡ over w d → entry (negℤ (pos 4)) p r ≡ given q k n w d r
+unfolding given
+refuses q k n w d r p e z o = rw (eq-eqb q 4 e, o, z) refl
+
+pub tells : (q k n : ℕ) (w d r p t : List ℕ) (a : ℤ) → (q ≡ 4 → ⊥) → p ≡ over w d → (a ≡ answerOf q n) × (t ≡ low-first 8 k) → entry a p t ≡ given q k n w d r
+unfolding given
+tells q k n w d r p t a e o (x, y) = rw (ne-eqb q 4 e, o, x, y) refl
+
+module _ (s d r : List ℕ) (f : ℕ) (e : length r ≡ 8) (h : length s ≤ 1048576) (k : length d ≤ 1048576) where
+  pub decode-given : let R = decoding f (length d / 4) s in given (R .number) (R .consumed) (length (R .codes)) (laid (R .codes)) d r ≡ decode-entry s d f r
+  unfolding decode-entry
+  decode-given = rw (eq-eqb (length r) 8 e, le-leb (length s) 1048576 h, le-leb (length d) 1048576 k) refl
+
+  pub encode-given : length s % 4 ≡ 0 → let W = encoding f (length d) (codesOf s) in given (W .number) (W .consumed) (length (W .written)) (W .written) d r ≡ encode-entry s d f r
+  unfolding encode-entry
+  encode-given m = rw (eq-eqb (length r) 8 e, le-leb (length s) 1048576 h, le-leb (length d) 1048576 k, eq-eqb (length s % 4) 0 m) refl

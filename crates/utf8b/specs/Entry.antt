@@ -1,0 +1,58 @@
+-- What a C entry answers and leaves in its buffers ("The C side"). Assumes nothing.
+use mathlib.Core.Bool.{Bool, _&&_, cond}
+use mathlib.Core.List.{List}
+use Prim.Native.Nat.{ℕ, _/_, _%_}
+use lib.Dec.{eqb, leb}
+use lib.IntN.{ℤ, pos, negℤ}
+use lib.ListN.{length}
+use Rattle.decode.specs.Reading.{decoding}
+use Rattle.encode.specs.Writing.{encoding}
+use Rattle.utf8b.specs.Bytes.{low-first, laid, codesOf, over}
+
+-- the answer, and the output and the report at exit
+pub record Entry : Type 0 where
+  pub answer : ℤ
+  pub output : List ℕ
+  pub report : List ℕ
+
+abbrev pub entry : ℤ → List ℕ → List ℕ → Entry
+entry a output report = record { answer = a; output = output; report = report }
+
+-- refused by number: nothing is written
+abbrev pub refused : ℕ → List ℕ → List ℕ → Entry
+refused q output report = entry (negℤ (pos q)) output report
+
+-- the items produced, or -1 for number 3 with nothing produced
+abbrev pub answerOf : ℕ → ℕ → ℤ
+answerOf q items = cond (eqb q 3 && eqb items 0) (negℤ (pos 1)) (pos items)
+
+-- what a call with this number, these counts and these bytes gives
+unfoldable pub given : ℕ → ℕ → ℕ → List ℕ → List ℕ → List ℕ → Entry
+given q consumed items bytes output report =
+    cond (eqb q 4) (refused 4 output report) (entry (answerOf q items) (over bytes output) (low-first 8 consumed))
+
+-- a report has 8 bytes
+abbrev pub is-report : List ℕ → Bool
+is-report r = eqb (length r) 8
+
+-- a buffer has at most 1,048,576 bytes
+abbrev pub in-limit : List ℕ → Bool
+in-limit s = leb (length s) 1048576
+
+-- in this order: 6, 8, 4
+unfoldable pub decode-entry : List ℕ → List ℕ → ℕ → List ℕ → Entry
+decode-entry src codes flags report =
+    let R = decoding flags (length codes / 4) src in
+    cond (is-report report)
+    (cond (in-limit src && in-limit codes) (given (R .number) (R .consumed) (length (R .codes)) (laid (R .codes)) codes report) (refused 8 codes report))
+    (refused 6 codes report)
+
+-- in this order: 6, 8, 7, 4
+unfoldable pub encode-entry : List ℕ → List ℕ → ℕ → List ℕ → Entry
+encode-entry codes dst flags report =
+    let W = encoding flags (length dst) (codesOf codes) in
+    cond (is-report report)
+    (cond (in-limit codes && in-limit dst)
+    (cond (eqb (length codes % 4) 0) (given (W .number) (W .consumed) (length (W .written)) (W .written) dst report) (refused 7 dst report))
+    (refused 8 dst report))
+    (refused 6 dst report)
