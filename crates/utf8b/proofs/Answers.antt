@@ -1,9 +1,8 @@
 -- The answer and the report of an entry. Assumes nothing.
 use mathlib.Core.Path.{_≡_, refl, sym, ap, _∙_}
 use mathlib.Core.List.{List, [], _++_}
-use Prim.Native.Nat.{ℕ, _+_, _/_, _%_, _≤_, _<_}
+use Prim.Native.Nat.{ℕ, _+_, _/_, _%_, _≤_}
 use native.Mathlib.Omega.{arith}
-use lib.Dec.{eqb}
 use lib.IntN.{ℤ, pos, negℤ}
 use lib.ListN.{length, take, drop}
 use lib.Seq.{drop-drop, drop-length}
@@ -11,7 +10,7 @@ use borrow.Author.Tests.{eq-eqb, ne-eqb, le-leb}
 use Rattle.decode.specs.Reading.{decoding}
 use Rattle.encode.specs.Writing.{encoding}
 use Rattle.utf8b.specs.Bytes.{low-first, laid, codesOf, over}
-use Rattle.utf8b.specs.Entry.{Entry, entry, answerOf, given, decode-entry, encode-entry}
+use Rattle.utf8b.specs.Entry.{entry, answerOf, given, decode-entry, encode-entry}
 
 -- two writes of four bytes are the whole report
 pub reported : (n : ℕ) (r a b : List ℕ) → n ≤ 1048576 → length r ≡ 8 → a ≡ take 0 r ++ low-first 4 n ++ drop (0 + 4) r → b ≡ take 4 a ++ low-first 4 0 ++ drop (4 + 4) a

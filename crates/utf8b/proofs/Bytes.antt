@@ -1,11 +1,12 @@
 -- Laws of codes as bytes. Assumes nothing.
 use mathlib.Core.Path.{_≡_, refl, sym, ap, _∙_}
 use mathlib.Core.List.{List, [], _∷_, _++_}
-use Prim.Native.Nat.{ℕ, zero, suc, _+_, _*_, _/_, _≤_, _<_}
+use Prim.Native.Nat.{ℕ, zero, suc, _+_, _*_, _/_, _%_, _≤_, _<_}
 use native.Mathlib.Numerals.{add-one}
 use native.Mathlib.Omega.{arith}
 use lib.ListN.{length, getD, set, take, drop, length-drop}
 use lib.Seq.{length-take-le, take-suc, drop-cons, drop-drop, take-at, drop-at, set-at, append-snoc, getD-drop}
+use Rattle.form.specs.Text.{All}
 use Rattle.utf8b.specs.Bytes.{low-first, laid, codesOf}
 
 pub laid-length : (l : List ℕ) → length (laid l) ≡ length l * 4
@@ -81,3 +82,11 @@ gathered s d e i x h k p q =
     ap (λ (y : List ℕ). set y i x) p
     ∙ ap (set (take i l ++ drop i d) i) (q ∙ sym (code-at s i h))
     ∙ rw (add-one i, drop-cons d i 0 k, take-suc l i 0 n) (set-at (take i l) _ _ _ i (length-take-le i l (omega arith)) ∙ sym (append-snoc (take i l) (getD l i 0) (drop (suc i) d)))
+
+code-again : (c : ℕ) → c < 4294967296 → c % 256 + 256 * (c / 256 % 256 + 256 * (c / 256 / 256 % 256 + 256 * (c / 256 / 256 / 256 % 256))) ≡ c
+code-again c h = omega arith
+
+-- what is laid is read again
+pub laid-again : (l : List ℕ) → All (λ c. c < 4294967296) l → codesOf (laid l) ≡ l
+laid-again [] h = refl
+laid-again (c ∷ l) (h, k) = rw (code-again c h, laid-again l k) refl

@@ -1,5 +1,5 @@
 -- The loop goes from stretch to stretch. Assumes nothing.
-use mathlib.Core.Logic.{_⊎_, inl, inr}
+use mathlib.Core.Logic.{inl, inr}
 use Prim.Native.Nat.{_-_, _*_, _/_}
 use native.Mathlib.Omega.{arith}
 use lib.ListN.{length}
@@ -21,11 +21,11 @@ place c = c .before .before .before
 abbrev start : tie.At-loop Inv-loop μ-loop → tie.Start Inv-loop μ-loop
 start c = c .before .before .before
 
-done : (c : tie.After-decode-stretch Inv-loop μ-loop)
+reads : (c : tie.After-decode-stretch Inv-loop μ-loop)
     → Stretched (start (place c) .args .flags) (start (place c) .args .src .now) (start (place c) .args .codes .now)
     (putMid (place c .loop .n * 4) (length (place c .loop .codes) - place c .loop .n * 4) (place c .loop .codes) (c .decode-stretch .last .1 .0))
     (place c .loop .at) (place c .loop .n) (c .decode-stretch .result)
-done c = stretched _ _ _ _ _ _ (place c .loop .inv) _ _ (c .decode-stretch .ensures)
+reads c = stretched _ _ _ _ _ _ (place c .loop .inv) _ _ (c .decode-stretch .ensures)
 
 -- once counted
 abbrev some : tie.After-struct-known3 Inv-loop μ-loop → tie.After-decode-stretch Inv-loop μ-loop
@@ -46,11 +46,11 @@ decode-all-spec =
     (λ c. reads-room _ _ _ _ _ _ (c .before .loop .inv) .1)
     (λ c. omega arith)
     (λ c κs. tt)
-    (λ c. omega (arith, done (c .before .before .before) .place))
-    (λ c. omega (arith, done (c .before .before .before .before) .room))
-    (λ c. done (some (c .before)) .same)
-    (λ c. done (some (c .before)) .ends (inl (c .if1 .taken)))
-    (λ c. done (some (c .before .before)) .same)
-    (λ c. done (some (c .before .before)) .ends (inr (c .if2 .taken)))
-    (λ c. let d = done (some (c .before .before)) in omega (arith, d .goes-on (c .before .if1 .left) (c .if2 .left) .1, d .room))
-    (λ c. done (some (c .before .before)) .goes-on (c .before .if1 .left) (c .if2 .left) .0))
+    (λ c. omega (arith, reads (c .before .before .before) .place))
+    (λ c. omega (arith, reads (c .before .before .before .before) .room))
+    (λ c. reads (some (c .before)) .same)
+    (λ c. reads (some (c .before)) .ends (inl (c .if1 .taken)))
+    (λ c. reads (some (c .before .before)) .same)
+    (λ c. reads (some (c .before .before)) .ends (inr (c .if2 .taken)))
+    (λ c. let d = reads (some (c .before .before)) in omega (arith, d .goes-on (c .before .if1 .left) (c .if2 .left) .1, d .room))
+    (λ c. reads (some (c .before .before)) .goes-on (c .before .if1 .left) (c .if2 .left) .0))

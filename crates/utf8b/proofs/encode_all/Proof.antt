@@ -1,5 +1,5 @@
 -- The loop goes from stretch to stretch. Assumes nothing.
-use mathlib.Core.Logic.{_⊎_, inl, inr}
+use mathlib.Core.Logic.{inl, inr}
 use Prim.Native.Nat.{_-_, _/_}
 use native.Mathlib.Omega.{arith}
 use lib.ListN.{length}
@@ -21,11 +21,11 @@ place c = c .before .before .before
 abbrev start : tie.At-loop Inv-loop μ-loop → tie.Start Inv-loop μ-loop
 start c = c .before .before .before
 
-done : (c : tie.After-encode-stretch Inv-loop μ-loop)
+writes : (c : tie.After-encode-stretch Inv-loop μ-loop)
     → Stretched (start (place c) .args .flags) (start (place c) .args .codes .now) (start (place c) .args .dst .now)
     (putMid (place c .loop .n) (length (place c .loop .dst) - place c .loop .n) (place c .loop .dst) (c .encode-stretch .last .1 .0))
     (place c .loop .at) (place c .loop .n) (c .encode-stretch .result)
-done c = stretched _ _ _ _ _ _ (place c .loop .inv) _ _ (c .encode-stretch .ensures)
+writes c = stretched _ _ _ _ _ _ (place c .loop .inv) _ _ (c .encode-stretch .ensures)
 
 -- once counted
 abbrev some : tie.After-struct-known3 Inv-loop μ-loop → tie.After-encode-stretch Inv-loop μ-loop
@@ -46,11 +46,11 @@ encode-all-spec =
     (λ c. writes-room _ _ _ _ _ _ (c .before .loop .inv))
     (λ c. omega arith)
     (λ c κs. tt)
-    (λ c. omega (arith, done (c .before .before .before) .place))
-    (λ c. omega (arith, done (c .before .before .before .before) .room))
-    (λ c. done (some (c .before)) .same)
-    (λ c. done (some (c .before)) .ends (inl (c .if1 .taken)))
-    (λ c. done (some (c .before .before)) .same)
-    (λ c. done (some (c .before .before)) .ends (inr (c .if2 .taken)))
-    (λ c. let d = done (some (c .before .before)) in omega (arith, d .goes-on (c .before .if1 .left) (c .if2 .left) .1, d .place))
-    (λ c. done (some (c .before .before)) .goes-on (c .before .if1 .left) (c .if2 .left) .0))
+    (λ c. omega (arith, writes (c .before .before .before) .place))
+    (λ c. omega (arith, writes (c .before .before .before .before) .room))
+    (λ c. writes (some (c .before)) .same)
+    (λ c. writes (some (c .before)) .ends (inl (c .if1 .taken)))
+    (λ c. writes (some (c .before .before)) .same)
+    (λ c. writes (some (c .before .before)) .ends (inr (c .if2 .taken)))
+    (λ c. let d = writes (some (c .before .before)) in omega (arith, d .goes-on (c .before .if1 .left) (c .if2 .left) .1, d .place))
+    (λ c. writes (some (c .before .before)) .goes-on (c .before .if1 .left) (c .if2 .left) .0))

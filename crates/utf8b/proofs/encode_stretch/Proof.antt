@@ -1,13 +1,12 @@
 -- The codes go through the local array. Assumes nothing.
-use mathlib.Core.Path.{_≡_, sym, ap, _∙_}
+use mathlib.Core.Path.{_≡_, sym}
 use mathlib.Core.List.{List, _++_}
 use Prim.Native.Nat.{ℕ, _≤_}
 use native.Mathlib.Omega.{arith}
 use lib.ListN.{length, take, drop, length-append}
 use lib.Seq.{length-take-le}
 use borrow.Author.Needs.{needs}
-use Rattle.encode.specs.Writing.{encoding, encodedOf}
-use Rattle.utf8b.specs.Bytes.{codesOf, over}
+use Rattle.utf8b.specs.Bytes.{codesOf}
 use Rattle.utf8b.proofs.Bytes.{codes-length}
 use Rattle.utf8b.proofs.Local.{gathers, written}
 use Rattle.utf8b.proofs.encode_stretch.Statement.{statement}

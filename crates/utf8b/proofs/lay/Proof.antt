@@ -1,11 +1,10 @@
 -- One more code is laid at each turn. Assumes nothing.
-use mathlib.Core.Path.{_≡_, refl, ap, _∙_}
+use mathlib.Core.Path.{_≡_, refl, _∙_}
 use mathlib.Core.List.{_++_}
 use Prim.Native.Nat.{_+_, _-_, _*_, _≤_}
 use native.Mathlib.Omega.{arith}
 use lib.ListN.{length, take, drop}
 use lib.Seq.{take-length}
-use borrow.Author.Needs.{scaled-fits}
 use Rattle.utf8b.specs.Bytes.{laid}
 use Rattle.utf8b.proofs.Bytes.{laid-length, laid-next}
 use Rattle.utf8b.proofs.lay.Statement.{statement}
