@@ -42,7 +42,7 @@ writes l w a h = rw (encoding-write l w a (omega (arith, write-length l))) (refl
 is-write : (l s : List ℕ) (w : ℕ) → Accepted l → needs l ≤ w → Writes w l s → s ≡ write plain l
 is-write l s w a h g = sym (g .2) ∙ writes l w a h .2
 
-read-accepted : (s : List ℕ) → Bytes s → Accepted (read plain s)
+pub read-accepted : (s : List ℕ) → Bytes s → Accepted (read plain s)
 read-accepted s b = clean-accepted (read plain s) (plain-demand3 .clean s b)
 
 -- a list that is read is written as those bytes
