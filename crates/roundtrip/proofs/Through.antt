@@ -1,13 +1,12 @@
 -- A line goes through the C entries and back. Assumes nothing.
-use mathlib.Core.Path.{_≡_, refl, sym, ap, _∙_}
+use mathlib.Core.Path.{_≡_, refl, ap, _∙_}
 use mathlib.Core.List.{List, [], _∷_}
-use Prim.Native.Nat.{ℕ, _+_, _*_, _/_, _%_, _≤_, _<_}
+use Prim.Native.Nat.{ℕ, _*_, _/_, _≤_, _<_}
 use native.Mathlib.Omega.{arith}
 use lib.ListN.{length}
 use Rattle.form.specs.Table.{plain}
-use Rattle.form.specs.Text.{read, write, All, Bytes, Accepted}
+use Rattle.form.specs.Text.{read, All, Bytes, Accepted}
 use Rattle.form.proofs.Utf8.{plain-demand3}
-use Rattle.decode.specs.Reading.{decoding}
 use Rattle.decode.proofs.Theorems.{within, reads-all}
 use Rattle.encode.specs.Writing.{encoding}
 use Rattle.encode.proofs.Theorems.{encoding-write}

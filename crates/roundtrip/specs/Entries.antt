@@ -4,7 +4,7 @@ use mathlib.Core.Path.{_≡_}
 use mathlib.Core.List.{List}
 use Prim.Native.Nat.{ℕ, _*_, _≤_}
 use lib.IntN.{pos}
-use lib.ListN.{length, take}
+use lib.ListN.{length}
 use Rattle.form.specs.Text.{Bytes}
 use Rattle.utf8b.specs.Bytes.{low-first, over}
 use Rattle.utf8b.specs.Entry.{Entry, decode-entry, encode-entry}
@@ -17,7 +17,7 @@ Buffer n d = (n ≤ length d) × (length d ≤ 1048576)
 abbrev pub Gives : Entry → ℕ → List ℕ → List ℕ → ℕ → Type 0
 Gives e n w d k = (e .answer ≡ pos n) × (e .output ≡ over w d) × (e .report ≡ low-first 8 k)
 
--- for every line s, LAST on the way in and no flags on the way back, with room for four bytes a byte and for the line
+-- for every line s that the buffers have room for, with LAST on the way in and no flags on the way back
 pub record Through : Type 0 where
   pub back : (s d e r q : List ℕ) → Bytes s → Buffer (length s * 4) d → Buffer (length s) e → length r ≡ 8 → length q ≡ 8
       → (n : ℕ) × (w : List ℕ) × (length w ≡ n * 4) × Gives (decode-entry s d 1 r) n w d (length s) × Gives (encode-entry w e 0 q) (length s) s e n
