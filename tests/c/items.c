@@ -1,0 +1,68 @@
+/* Short inputs against the model, with every room about them. */
+#include "tests.h"
+
+/* Short byte strings over the borders, every flag number and every room about them. */
+void test_short_reads(void)
+{
+    size_t most = small ? 1 : 3, all = 1;
+
+    check_begin("short reads");
+    for (size_t n = 0; n <= most; n++, all *= BORDER)
+        for (size_t k = 0; k < all; k++) {
+            uint8_t s[4];
+            size_t rest = k;
+
+            for (size_t i = 0; i < n; i++, rest /= BORDER)
+                s[i] = border[rest % BORDER];
+            for (uint32_t flags = 0; flags < 16; flags++)
+                if (n < 3)
+                    for (size_t out_len = 0; out_len < 4 * n + 6; out_len++)
+                        try_call(DECODE, s, n, out_len, flags);
+                else
+                    try_call(DECODE, s, n, below(4 * n + 6), flags);
+        }
+}
+
+void test_random_reads(void)
+{
+    uint8_t s[48];
+
+    check_begin("random reads");
+    for (long i = 0; i < (small ? 300 : 100000); i++) {
+        size_t n = damaged_text(s, below(sizeof s));
+
+        try_call(DECODE, s, n, below(4 * n + 8), random32() % 16);
+    }
+}
+
+/* Border codes alone and in pairs, every flag number and every room about them. */
+void test_short_writes(void)
+{
+    check_begin("short writes");
+    for (size_t a = 0; a < BORDER_CODES; a++)
+        for (size_t b = 0; b < (small ? 2 : BORDER_CODES); b++)
+            for (uint32_t flags = 0; flags < 16; flags++)
+                for (size_t out_len = 0; out_len < 10; out_len++) {
+                    uint8_t codes[8];
+
+                    set_code(codes, 0, border_codes[a]);
+                    set_code(codes, 1, border_codes[b]);
+                    if (b == 0)
+                        try_call(ENCODE, codes, 4, out_len, flags);
+                    try_call(ENCODE, codes, 8, out_len, flags);
+                }
+}
+
+void test_random_writes(void)
+{
+    uint8_t codes[4 * 24];
+
+    check_begin("random writes");
+    for (long i = 0; i < (small ? 300 : 100000); i++) {
+        size_t n = below(25);
+
+        for (size_t k = 0; k < n; k++)
+            set_code(codes, k, below(4) ? border_codes[below(BORDER_CODES - 3 + below(8) / 6)] : random32() % 0x110800);
+        try_call(ENCODE, codes, 4 * n, below(4 * n + 4), random32() % 8);
+    }
+}

@@ -1,0 +1,33 @@
+/* What the two entries have to do, written plainly and slowly. */
+#ifndef MODEL_H
+#define MODEL_H
+
+#include <stddef.h>
+#include <stdint.h>
+
+/* One call of an entry: reading if decode is set, else writing. */
+struct call {
+    int decode;
+    uint32_t flags;
+    const uint8_t *in;
+    size_t in_len;
+    size_t out_len;
+    size_t report_len;
+};
+
+/* What it must leave: the answer, the first bytes of the output, and the consumed count if reported. */
+struct outcome {
+    int64_t answer;
+    uint8_t *out;
+    size_t written;
+    int reported;
+    uint64_t consumed;
+};
+
+/* out must have room for out_len bytes of the call. */
+void model(const struct call *c, struct outcome *o);
+
+uint32_t code_at(const uint8_t *codes, size_t i);
+void set_code(uint8_t *codes, size_t i, uint32_t code);
+
+#endif
