@@ -10,9 +10,9 @@ use Rattle.form.proofs.Utf8.{plain-demand3}
 use Rattle.decode.proofs.Theorems.{within, reads-all}
 use Rattle.encode.specs.Writing.{encoding}
 use Rattle.encode.proofs.Theorems.{encoding-write}
-use Rattle.utf8b.specs.Bytes.{laid, codesOf}
+use Rattle.packed.specs.Bytes.{laid, codesOf}
 use Rattle.utf8b.specs.Entry.{given, decode-entry, encode-entry}
-use Rattle.utf8b.proofs.Bytes.{laid-length, laid-again}
+use Rattle.packed.proofs.Bytes.{laid-length, laid-again}
 use Rattle.utf8b.proofs.Answers.{decode-given, encode-given}
 use Rattle.roundtrip.specs.Entries.{Buffer, Gives, Through}
 use Rattle.roundtrip.proofs.Holds.{read-accepted}

@@ -1,7 +1,7 @@
 -- Each refusal by its test, and otherwise what the call gives. Assumes nothing.
 use mathlib.Core.Path.{_≡_, sym, ap, subst, _∙_}
 use mathlib.Core.List.{[]}
-use Prim.Native.Nat.{_/_, _≤_}
+use Prim.Native.Nat.{ℕ, _/_, _≤_}
 use native.Mathlib.Omega.{arith}
 use mir.Syntax.{w64}
 use mir.ValLaws.{toZ-ofZ}
@@ -12,7 +12,7 @@ use Rattle.decode.specs.declared.Decoded.{Decoded}
 use Rattle.decode.specs.Reading.{Reading, stopped, decoding, decodedOf}
 use Rattle.decode.proofs.Readings.{refused-nothing}
 use Rattle.decode.proofs.Theorems.{refused-exactly, within}
-use Rattle.utf8b.specs.Bytes.{low-first, laid}
+use Rattle.packed.specs.Bytes.{low-first, laid}
 use Rattle.utf8b.specs.Entry.{answerOf, given, decode-entry}
 use Rattle.utf8b.proofs.Answers.{refuses, tells, decode-given}
 use Rattle.utf8b.proofs.utf8b_decode.Statement.{statement}
@@ -30,7 +30,7 @@ returns-3 : tie.Need-returns-3
 unfolding decode-entry
 returns-3 c = simp (eq-eqb _ _ (c .before .before .if1 .left), le-leb _ _ (c .before .if2 .left), lt-leb _ _ (c .if3 .taken))
 
-module _ (c : tie.After-decode-all) where
+module _ (c : tie.After-decode-packed) where
   abbrev start : tie.Start
   start = c .before .before .before .before .before .before .before .before
 
@@ -41,28 +41,27 @@ module _ (c : tie.After-decode-all) where
       ≡ decode-entry (start .args .src .now) (start .args .codes .now) (start .args .flags) (start .args .report .now)
   gives = decode-given (start .args .src .now) (start .args .codes .now) (start .args .report .now) (start .args .flags) (c .before .before .before .before .if1 .left) (c .before .before .before .if2 .left) (c .before .before .if3 .left)
 
-  number : R .number ≡ c .decode-all .result .number
+  number : R .number ≡ c .decode-packed .result .number
   unfolding decodedOf
-  number = sym (ap (λ (x : Decoded). x .number) (c .decode-all .ensures .0))
+  number = sym (ap (λ (x : Decoded). x .number) (c .decode-packed .ensures .0))
 
   none : R .number ≡ 4 → laid (R .codes) ≡ []
   unfolding stopped
   none e = ap (λ (X : Reading). laid (X .codes)) (refused-nothing _ _ _ (refused-exactly _ _ _ .0 e))
 
-  few : (c .decode-all .result .consumed ≤ 1048576) × (c .decode-all .result .produced ≤ 1048576)
+  few : c .decode-packed .result .produced ≤ 1048576
   unfolding decodedOf
-  few =
-      let w = within (start .args .flags) (length (start .args .codes .now) / 4) (start .args .src .now) in
-      rw (c .decode-all .ensures .0) (omega (arith, w .0, c .before .before .before .if2 .left), omega (arith, w .1, c .before .before .if3 .left))
+  few = rw (c .decode-packed .ensures .0) (omega (arith, within (start .args .flags) (length (start .args .codes .now) / 4) (start .args .src .now) .1, c .before .before .if3 .left))
 
 returns-5 : tie.Need-returns-5
 unfolding decodedOf
 returns-5 c =
-    let t = c .before .before in
+    let t = c .before .before .before in
     let d = t .before .before .before .before .before .before in
-    let told = subst (λ (x : Decoded). (t .tell .result ≡ answerOf (x .number) (x .produced)) × (t .tell .last .1 .1 .1 .0 ≡ low-first 8 (x .consumed))) (d .decode-all .ensures .0) (t .tell .ensures) in
-    simp (toZ-ofZ w64 (t .tell .result) (sfits-of (t .tell .ok)))
-    (tells _ _ _ _ _ _ _ _ _ (λ e. t .before .before .if4 .left (sym (number d) ∙ e)) (d .decode-all .ensures .1) told ∙ gives d)
+    let count = t .put-count .ensures ∙ ap (λ (k : ℕ). low-first k (d .decode-packed .result .consumed)) (d .before .before .before .before .if1 .left) in
+    let told = subst (λ (x : Decoded). (c .answer .result ≡ answerOf (x .number) (x .produced)) × (t .put-count .last .1 .0 ≡ low-first 8 (x .consumed))) (d .decode-packed .ensures .0) (c .answer .ensures, count) in
+    simp (toZ-ofZ w64 (c .answer .result) (sfits-of (c .answer .ok)))
+    (tells _ _ _ _ _ _ _ _ _ (λ e. t .before .before .if4 .left (sym (number d) ∙ e)) (d .decode-packed .ensures .1) told ∙ gives d)
 
 pub utf8b-decode-spec : {M : Type 1} → statement M
 utf8b-decode-spec =
@@ -73,8 +72,9 @@ utf8b-decode-spec =
     returns-3
     (λ c κs. search needs)
     (λ c. search needs)
-    (λ c. let d = c .before .before .before .before in let e = number d ∙ c .if4 .taken in refuses _ _ _ _ _ _ _ e (none d e) (d .decode-all .ensures .1) ∙ gives d)
-    (λ c κs. let d = c .before .before .before .before .before in (few d .0, few d .1, c .before .before .before .before .before .before .before .before .before .if1 .left))
+    (λ c. let d = c .before .before .before .before in let e = number d ∙ c .if4 .taken in refuses _ _ _ _ _ _ _ e (none d e) (d .decode-packed .ensures .1) ∙ gives d)
+    (λ c κs. search needs)
+    (λ c κs. few (c .before .before .before .before .before .before .before .before))
     (λ c. search needs)
     (λ c. search needs)
     returns-5)

@@ -1,6 +1,6 @@
 -- Each refusal by its test, and otherwise what the call gives. Assumes nothing.
 use mathlib.Core.Path.{_≡_, sym, ap, subst, _∙_}
-use Prim.Native.Nat.{_≤_}
+use Prim.Native.Nat.{ℕ, _≤_}
 use native.Mathlib.Omega.{arith}
 use mir.Syntax.{w64}
 use mir.ValLaws.{toZ-ofZ}
@@ -9,10 +9,9 @@ use borrow.Author.Needs.{needs, sfits-of}
 use borrow.Author.Tests.{eq-eqb, ne-eqb, le-leb, lt-leb}
 use Rattle.encode.specs.declared.Encoded.{Encoded}
 use Rattle.encode.specs.Writing.{Writing, encoding, encodedOf}
-use Rattle.encode.proofs.Theorems.{refused-nothing, within-room, within-codes}
-use Rattle.utf8b.specs.Bytes.{low-first, codesOf}
+use Rattle.encode.proofs.Theorems.{refused-nothing, within-room}
+use Rattle.packed.specs.Bytes.{low-first, codesOf}
 use Rattle.utf8b.specs.Entry.{answerOf, given, encode-entry}
-use Rattle.utf8b.proofs.Bytes.{codes-length}
 use Rattle.utf8b.proofs.Answers.{refuses, tells, encode-given}
 use Rattle.utf8b.proofs.utf8b_encode.Statement.{statement}
 use Rattle.utf8b.proofs.utf8b_encode.Tie as tie
@@ -33,7 +32,7 @@ returns-4 : tie.Need-returns-4
 unfolding encode-entry
 returns-4 c = simp (eq-eqb _ _ (c .before .before .before .if1 .left), le-leb _ _ (c .before .before .if2 .left), le-leb _ _ (c .before .if3 .left), ne-eqb _ _ (c .if4 .taken))
 
-module _ (c : tie.After-encode-all) where
+module _ (c : tie.After-encode-packed) where
   abbrev start : tie.Start
   start = c .before .before .before .before .before .before .before .before .before
 
@@ -44,25 +43,23 @@ module _ (c : tie.After-encode-all) where
       ≡ encode-entry (start .args .codes .now) (start .args .dst .now) (start .args .flags) (start .args .report .now)
   gives = encode-given (start .args .codes .now) (start .args .dst .now) (start .args .report .now) (start .args .flags) (c .before .before .before .before .before .if1 .left) (c .before .before .before .before .if2 .left) (c .before .before .before .if3 .left) (c .before .before .if4 .left)
 
-  number : W .number ≡ c .encode-all .result .number
+  number : W .number ≡ c .encode-packed .result .number
   unfolding encodedOf
-  number = sym (ap (λ (x : Encoded). x .number) (c .encode-all .ensures .0))
+  number = sym (ap (λ (x : Encoded). x .number) (c .encode-packed .ensures .0))
 
-  few : (c .encode-all .result .consumed ≤ 1048576) × (c .encode-all .result .produced ≤ 1048576)
+  few : c .encode-packed .result .produced ≤ 1048576
   unfolding encodedOf
-  few =
-      let s = start .args .codes .now in
-      let d = start .args .dst .now in
-      rw (c .encode-all .ensures .0) (omega (arith, within-codes (start .args .flags) (length d) (codesOf s), codes-length s, c .before .before .before .before .if2 .left), omega (arith, within-room (start .args .flags) (length d) (codesOf s), c .before .before .before .if3 .left))
+  few = rw (c .encode-packed .ensures .0) (omega (arith, within-room (start .args .flags) (length (start .args .dst .now)) (codesOf (start .args .codes .now)), c .before .before .before .if3 .left))
 
 returns-6 : tie.Need-returns-6
 unfolding encodedOf
 returns-6 c =
-    let t = c .before .before in
+    let t = c .before .before .before in
     let d = t .before .before .before .before .before .before in
-    let told = subst (λ (x : Encoded). (t .tell .result ≡ answerOf (x .number) (x .produced)) × (t .tell .last .1 .1 .1 .0 ≡ low-first 8 (x .consumed))) (d .encode-all .ensures .0) (t .tell .ensures) in
-    simp (toZ-ofZ w64 (t .tell .result) (sfits-of (t .tell .ok)))
-    (tells _ _ _ _ _ _ _ _ _ (λ e. t .before .before .if5 .left (sym (number d) ∙ e)) (d .encode-all .ensures .1) told ∙ gives d)
+    let count = t .put-count .ensures ∙ ap (λ (k : ℕ). low-first k (d .encode-packed .result .consumed)) (d .before .before .before .before .before .if1 .left) in
+    let told = subst (λ (x : Encoded). (c .answer .result ≡ answerOf (x .number) (x .produced)) × (t .put-count .last .1 .0 ≡ low-first 8 (x .consumed))) (d .encode-packed .ensures .0) (c .answer .ensures, count) in
+    simp (toZ-ofZ w64 (c .answer .result) (sfits-of (c .answer .ok)))
+    (tells _ _ _ _ _ _ _ _ _ (λ e. t .before .before .if5 .left (sym (number d) ∙ e)) (d .encode-packed .ensures .1) told ∙ gives d)
 
 pub utf8b-encode-spec : {M : Type 1} → statement M
 utf8b-encode-spec =
@@ -74,8 +71,9 @@ utf8b-encode-spec =
     returns-4
     (λ c κs. search needs)
     (λ c. search needs)
-    (λ c. let d = c .before .before .before .before in let e = number d ∙ c .if5 .taken in refuses _ _ _ _ _ _ _ e (refused-nothing _ _ _ e .1) (d .encode-all .ensures .1) ∙ gives d)
-    (λ c κs. let d = c .before .before .before .before .before in (few d .0, few d .1, c .before .before .before .before .before .before .before .before .before .before .if1 .left))
+    (λ c. let d = c .before .before .before .before in let e = number d ∙ c .if5 .taken in refuses _ _ _ _ _ _ _ e (refused-nothing _ _ _ e .1) (d .encode-packed .ensures .1) ∙ gives d)
+    (λ c κs. search needs)
+    (λ c κs. few (c .before .before .before .before .before .before .before .before))
     (λ c. search needs)
     (λ c. search needs)
     returns-6)

@@ -15,9 +15,9 @@ use Rattle.decode.specs.Reading as D
 use Rattle.decode.specs.Reading.{Reading, decoding, decodedOf}
 use Rattle.decode.proofs.Readings.{follow-follow, follow-none}
 use Rattle.decode.proofs.Theorems.{resume, within, full-up, more-room}
-use Rattle.utf8b.specs.Bytes.{laid, over}
-use Rattle.utf8b.proofs.Bytes.{laid-length, laid-append}
-use Rattle.utf8b.proofs.Filled.{Filled, filled-none, filled-same, filled-part, filled-more}
+use Rattle.packed.specs.Bytes.{laid, over}
+use Rattle.packed.proofs.Bytes.{laid-length, laid-append}
+use Rattle.packed.proofs.Filled.{Filled, filled-none, filled-same, filled-part, filled-more}
 
 -- n codes are given, and `at` bytes consumed
 pub record Reads (f : ℕ) (s d₀ d : List ℕ) (at n : ℕ) : Type 0 where

@@ -1,0 +1,143 @@
+// The reader and the writer over packed codes: four bytes each, low byte first. The codes go through a small local array in stretches.
+use decode::Decoded;
+use encode::Encoded;
+ghost use mathlib.Core.Path.{_≡_};
+ghost use mathlib.Core.List.{_++_};
+ghost use Prim.Native.Nat.{_+_, _*_, _/_, _≤_, min};
+ghost use lib.ListN.{length, take, drop};
+ghost use Rattle.decode.specs.Reading.{decoding, decodedOf};
+ghost use Rattle.encode.specs.Writing.{encoding, encodedOf};
+ghost use Rattle.packed.specs.Bytes.{low-first, laid, codesOf, over};
+
+// The codes in a stretch.
+const STRETCH: usize = 256;
+
+// A local array for a stretch.
+fn stretch() -> [u32; STRETCH]
+    ensures { λ r. ⌜ length r ≡ 256 ⌝ }
+{
+    [0; STRETCH]
+}
+
+fn lesser(a: usize, b: usize) -> usize
+    ensures { λ r. ⌜ r ≡ min a b ⌝ }
+{
+    if a < b { a } else { b }
+}
+
+fn put(out: &mut [u8], at: usize, x: u32)
+    requires { ⌜ at + 4 ≤ length (now out) ⌝ }
+    ensures { λ _. ⌜ now (out .exit) ≡ take at (now (out .entry)) ++ low-first 4 x ++ drop (at + 4) (now (out .entry)) ⌝ }
+{
+    out[at] = (x % 256) as u8;
+    out[at + 1] = (x / 256 % 256) as u8;
+    out[at + 2] = (x / 256 / 256 % 256) as u8;
+    out[at + 3] = (x / 256 / 256 / 256 % 256) as u8;
+}
+
+fn code(a: u8, b: u8, c: u8, d: u8) -> u32
+    ensures { λ r. ⌜ r ≡ a + 256 * (b + 256 * (c + 256 * d)) ⌝ }
+{
+    a as u32 + 256 * (b as u32 + 256 * (c as u32 + 256 * d as u32))
+}
+
+// Codes to the front of a buffer.
+fn lay(codes: &[u32], out: &mut [u8])
+    requires { ⌜ length (now codes) * 4 ≤ length (now out) ⌝ }
+    ensures { λ _. ⌜ now (out .exit) ≡ over (laid (now (codes .entry))) (now (out .entry)) ⌝ }
+{
+    for i in 0..codes.len() {
+        put(out, i * 4, codes[i]);
+    }
+}
+
+// Codes from the front of a buffer, as many as there is room for.
+fn gather(s: &[u8], codes: &mut [u32])
+    requires { ⌜ length (now codes) * 4 ≤ length (now s) ⌝ }
+    ensures { λ _. ⌜ now (codes .exit) ≡ take (length (now (codes .entry))) (codesOf (now (s .entry))) ⌝ }
+{
+    for i in 0..codes.len() {
+        let at = i * 4;
+        codes[i] = code(s[at], s[at + 1], s[at + 2], s[at + 3]);
+    }
+}
+
+fn decode_stretch(src: &[u8], codes: &mut [u8], flags: u32) -> Decoded
+    ensures answer { λ r. ⌜ r ≡ decodedOf (decoding flags (min (length (now (codes .entry)) / 4) 256) (now (src .entry))) ⌝ }
+    ensures output { λ _. ⌜ now (codes .exit) ≡ over (laid (decoding flags (min (length (now (codes .entry)) / 4) 256) (now (src .entry)) .codes)) (now (codes .entry)) ⌝ }
+{
+    let mut some = stretch();
+    let room = lesser(codes.len() / 4, STRETCH);
+    let r = decode::decode(src, &mut some[..room], flags);
+    let n = r.produced;
+    lay(&some[..n], codes);
+    r
+}
+
+pub fn decode_packed(src: &[u8], codes: &mut [u8], flags: u32) -> Decoded
+    ensures answer { λ r. ⌜ r ≡ decodedOf (decoding flags (length (now (codes .entry)) / 4) (now (src .entry))) ⌝ }
+    ensures output { λ _. ⌜ now (codes .exit) ≡ over (laid (decoding flags (length (now (codes .entry)) / 4) (now (src .entry)) .codes)) (now (codes .entry)) ⌝ }
+{
+    let room = codes.len() / 4;
+    let mut at: usize = 0;
+    let mut n: usize = 0;
+    loop {
+        let from = n * 4;
+        let r = decode_stretch(&src[at..], &mut codes[from..], flags);
+        at += r.consumed;
+        n += r.produced;
+        if r.number != 1 {
+            return Decoded {
+                number: r.number,
+                consumed: at,
+                produced: n,
+            };
+        }
+        if n == room {
+            return Decoded {
+                number: r.number,
+                consumed: at,
+                produced: n,
+            };
+        }
+    }
+}
+
+fn encode_stretch(codes: &[u8], dst: &mut [u8], flags: u32) -> Encoded
+    ensures answer { λ r. ⌜ r ≡ encodedOf (encoding flags (length (now (dst .entry))) (take 256 (codesOf (now (codes .entry))))) ⌝ }
+    ensures output { λ _. ⌜ now (dst .exit) ≡ over (encoding flags (length (now (dst .entry))) (take 256 (codesOf (now (codes .entry)))) .written) (now (dst .entry)) ⌝ }
+{
+    let mut some = stretch();
+    let n = lesser(codes.len() / 4, STRETCH);
+    gather(codes, &mut some[..n]);
+    encode::encode(&some[..n], dst, flags)
+}
+
+pub fn encode_packed(codes: &[u8], dst: &mut [u8], flags: u32) -> Encoded
+    ensures answer { λ r. ⌜ r ≡ encodedOf (encoding flags (length (now (dst .entry))) (codesOf (now (codes .entry)))) ⌝ }
+    ensures output { λ _. ⌜ now (dst .exit) ≡ over (encoding flags (length (now (dst .entry))) (codesOf (now (codes .entry))) .written) (now (dst .entry)) ⌝ }
+{
+    let count = codes.len() / 4;
+    let mut at: usize = 0;
+    let mut n: usize = 0;
+    loop {
+        let from = at * 4;
+        let r = encode_stretch(&codes[from..], &mut dst[n..], flags);
+        at += r.consumed;
+        n += r.produced;
+        if r.number != 0 {
+            return Encoded {
+                number: r.number,
+                consumed: at,
+                produced: n,
+            };
+        }
+        if at == count {
+            return Encoded {
+                number: r.number,
+                consumed: at,
+                produced: n,
+            };
+        }
+    }
+}
