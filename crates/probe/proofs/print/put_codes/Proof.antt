@@ -1,0 +1,18 @@
+-- Assumes nothing.
+use Prim.Native.Nat.{_-_, _≤_}
+use native.Mathlib.Omega.{arith}
+use lib.ListN.{length}
+use Rattle.probe.proofs.print.put_codes.Statement.{statement}
+use Rattle.probe.proofs.print.put_codes.Tie as tie
+
+abbrev Inv-loop : tie.InvT-loop
+Inv-loop count codes k q₀ i₀ q i = (i ≤ k) × (k ≤ length codes)
+
+abbrev μ-loop : tie.MeasureT-loop
+μ-loop count codes k q₀ i₀ q i = k - i
+
+pub put-codes-spec : {M : Type 1} → statement M
+put-codes-spec =
+    tie.close
+    (tie.spec Inv-loop μ-loop (λ c κs. tt) (λ c. tt) (λ c κs. tt) (λ c. (omega arith, omega (arith, c .within-codes .ensures .0)))
+    (λ c. omega arith) (λ c. omega arith) (λ c κs. tt) (λ c. omega arith) (λ c. omega arith) (λ c. (omega arith, omega arith)) (λ c. tt))
