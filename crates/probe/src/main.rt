@@ -1,29 +1,15 @@
 // Tries one call a line: a command on standard input, its answer on standard output. `probe --help` lists the commands.
-mod parse;
-mod print;
-
 use advance::Answer;
 use libc::STDERR_FILENO;
 use libc::STDIN_FILENO;
 use libc::STDOUT_FILENO;
-use parse::MISS;
-use parse::bytes_of;
-use parse::number_of;
-use parse::start_of;
-use parse::state_of;
-use parse::word;
-use print::Output;
-use print::STOPPED;
-use print::put;
-use print::put_bytes;
-use print::put_state;
-use print::put_text;
+use state::Record;
 use steps::State;
 use steps::Stepped;
 use steps::SteppedBack;
 use units::Back;
 ghost use mathlib.Core.Path.{_≡_};
-ghost use Prim.Native.Nat.{_<_};
+ghost use Prim.Native.Nat.{_<_, _≤_};
 ghost use lib.ListN.{length};
 ghost use Rattle.io.specs.Counts.{Counts};
 
@@ -31,19 +17,6 @@ ghost use Rattle.io.specs.Counts.{Counts};
 const LONGEST: usize = 65536;
 
 const OVER: usize = 65537;
-
-// Why a line is refused, with 4 to 9 for a word of each kind.
-const EMPTY: usize = 0;
-
-const UNKNOWN: usize = 1;
-
-const FEW: usize = 2;
-
-const MANY: usize = 3;
-
-const LONG: usize = 10;
-
-const FINE: usize = 11;
 
 // The contract gives the length alone: a caller then never computes the zeros.
 fn code_buffer() -> [u32; 65536]
@@ -65,6 +38,331 @@ fn within_codes(n: usize, s: &[u32]) -> usize
     if n < s.len() { n } else { s.len() }
 }
 
+// ---- the words of a line, and what they say
+
+// Where a word begins that is not there.
+const MISS: usize = 0xFFFFFFFFFFFFFFFF;
+
+// Where the word of number k begins, from 0, where the byte b stands between two words.
+fn start_of(s: &[u8], b: u8, k: usize) -> usize {
+    let mut from: usize = 0;
+    for _i in 0..k {
+        let end = bytes::scan::find(s, from, s.len(), b);
+        if end == s.len() {
+            return MISS;
+        }
+        from = end + 1;
+    }
+    from
+}
+
+fn word(s: &[u8], b: u8, k: usize) -> &[u8] {
+    let from = start_of(s, b, k);
+    if from <= s.len() {
+        let end = bytes::scan::find(s, from, s.len(), b);
+        return &s[from..end];
+    }
+    s
+}
+
+// The number of a word in a list, or the length of the list.
+fn number_in(list: &[u8], name: &[u8]) -> usize {
+    for k in 0..list.len() {
+        if check::same(word(list, b' ', k), name) {
+            return k;
+        }
+    }
+    list.len()
+}
+
+// The value of a digit, or 16.
+fn digit(b: u8) -> u8
+    ensures { λ r. ⌜ r ≤ 16 ⌝ }
+{
+    match b {
+        b'0'..=b'9' => b - b'0',
+        b'A'..=b'F' => b - b'A' + 10,
+        b'a'..=b'f' => b - b'a' + 10,
+        _ => 16,
+    }
+}
+
+struct Number {
+    ok: bool,
+    value: u32,
+}
+
+// What a number becomes with one digit more; what is no digit makes it too large for any word.
+fn grown(n: u32, d: u8, base: u8) -> u64 {
+    if base <= d {
+        return 0xFFFFFFFFFFFFFFFF;
+    }
+    if base == 10 {
+        return n as u64 * 10 + d as u64;
+    }
+    n as u64 * 16 + d as u64
+}
+
+// The number that the word is, of 1 digit to so many.
+fn number_of(s: &[u8], base: u8, digits: usize, largest: u32) -> Number
+    ensures { λ r. ⌜ r .value ≤ largest ⌝ }
+{
+    let mut value: u32 = 0;
+    for i in 0..s.len() {
+        let more = grown(value, digit(s[i]), base);
+        if (largest as u64) < more {
+            return Number { ok: false, value };
+        }
+        value = more as u32;
+    }
+    Number {
+        ok: 0 < s.len() && s.len() <= digits,
+        value,
+    }
+}
+
+fn is_none(s: &[u8]) -> bool {
+    check::same(s, b"-")
+}
+
+fn all_digits(s: &[u8]) -> bool {
+    for i in 0..s.len() {
+        if 15 < digit(s[i]) {
+            return false;
+        }
+    }
+    true
+}
+
+fn is_bytes(s: &[u8]) -> bool {
+    if s.len() == 0 {
+        return false;
+    }
+    if s.len() % 2 == 1 {
+        return is_none(s);
+    }
+    all_digits(s)
+}
+
+fn is_codes(s: &[u8]) -> bool {
+    let mut from: usize = 0;
+    while from <= s.len() {
+        let end = bytes::scan::find(s, from, s.len(), b',');
+        if !number_of(&s[from..end], 16, 8, 0xFFFFFFFF).ok {
+            return is_none(s);
+        }
+        from = end + 1;
+    }
+    true
+}
+
+// The byte of number k, two digits each; beyond the last it is 0.
+fn byte_at(s: &[u8], k: usize) -> u8 {
+    if k < s.len() / 2 {
+        return digit(s[k * 2]) % 16 * 16 + digit(s[k * 2 + 1]) % 16;
+    }
+    0
+}
+
+// How many bytes a word has, as many as fit. They stand in the buffer then.
+fn bytes_of(s: &[u8], out: &mut [u8]) -> usize
+    ensures { λ r. ⌜ Counts r (now (out .exit)) ⌝ }
+{
+    let n = within_bytes(s.len() / 2, out);
+    for i in 0..n {
+        out[i] = byte_at(s, i);
+    }
+    n
+}
+
+// The same of codes.
+fn codes_of(s: &[u8], out: &mut [u32]) -> usize
+    ensures { λ r. ⌜ Counts r (now (out .exit)) ⌝ }
+{
+    let mut from: usize = 0;
+    let mut n: usize = 0;
+    while n < out.len() {
+        let end = bytes::scan::find(s, from, s.len(), b',');
+        let code = number_of(&s[from..end], 16, 8, 0xFFFFFFFF);
+        if !code.ok {
+            return n;
+        }
+        out[n] = code.value;
+        n += 1;
+        if end == s.len() {
+            return n;
+        }
+        from = end + 1;
+    }
+    n
+}
+
+fn state_of(s: &[u8]) -> State {
+    let mut bytes = [0u8; 14];
+    let from = within_bytes(4, s);
+    bytes_of(&s[from..], &mut bytes);
+    State {
+        raw: Record {
+            kind: byte_at(s, 0),
+            count: byte_at(s, 1),
+            bytes,
+        },
+    }
+}
+
+// ---- answers, which wait in a buffer that goes from function to function by value
+
+// In place of the number of bytes that wait: a write failed, so that no more is written.
+const STOPPED: usize = 0xFFFFFFFFFFFFFFFF;
+
+const ROOM: usize = 256;
+
+struct Output {
+    bytes: [u8; 256],
+    waiting: usize,
+}
+
+fn empty() -> Output {
+    Output {
+        bytes: [0; 256],
+        waiting: 0,
+    }
+}
+
+fn written(bytes: &[u8], waiting: usize) -> usize {
+    let n = within_bytes(waiting, bytes);
+    if waiting == STOPPED {
+        return STOPPED;
+    }
+    if io::write_all(STDOUT_FILENO, &bytes[..n]) {
+        return 0;
+    }
+    os::fail(b"probe: standard output");
+    STOPPED
+}
+
+// Writes the bytes that wait.
+fn flush(o: Output) -> Output {
+    let bytes = o.bytes;
+    let waiting = written(&bytes, o.waiting);
+    Output { bytes, waiting }
+}
+
+fn put(o: Output, b: u8) -> Output {
+    let mut q = o;
+    if q.waiting == ROOM {
+        q = flush(q);
+    }
+    let n = q.waiting;
+    if n < ROOM {
+        q.bytes[n] = b;
+        q.waiting = n + 1;
+    }
+    q
+}
+
+fn upper(b: u8) -> u8 {
+    match b {
+        b'a'..=b'f' => b - 32,
+        _ => b,
+    }
+}
+
+fn put_digits(o: Output, digits: &[u8]) -> Output {
+    let mut q = o;
+    for i in 0..digits.len() {
+        q = put(q, upper(digits[i]));
+    }
+    q
+}
+
+fn put_hex(o: Output, value: u64, width: usize) -> Output {
+    let mut digits = [0u8; 16];
+    let k = io::hex(value, width, &mut digits);
+    put_digits(o, &digits[..k])
+}
+
+fn put_decimal(o: Output, value: u64) -> Output {
+    let mut digits = [0u8; 20];
+    let k = io::decimal(value, &mut digits);
+    put_digits(o, &digits[..k])
+}
+
+fn put_piece(o: Output, b: u8, unit: u64, count: u64) -> Output {
+    match b {
+        b'@' => put_hex(o, unit, 1),
+        b'#' => put_decimal(o, count),
+        _ => put(o, b),
+    }
+}
+
+// The words, with the unit in hexadecimal where they have `@` and the count in decimal where they have `#`.
+fn put_text(o: Output, words: &[u8], unit: u64, count: u64) -> Output {
+    let mut q = o;
+    for i in 0..words.len() {
+        q = put_piece(q, words[i], unit, count);
+    }
+    q
+}
+
+fn put_byte(o: Output, b: u8) -> Output {
+    put_hex(o, b as u64, 2)
+}
+
+// The first so many bytes, or `-`.
+fn put_bytes(o: Output, count: usize, bytes: &[u8]) -> Output {
+    if count == 0 {
+        return put(o, b'-');
+    }
+    let k = within_bytes(count, bytes);
+    let mut q = o;
+    for i in 0..k {
+        q = put_byte(q, bytes[i]);
+    }
+    q
+}
+
+fn put_code(o: Output, i: usize, code: u32) -> Output {
+    if i == 0 {
+        return put_hex(o, code as u64, 1);
+    }
+    put_hex(put(o, b','), code as u64, 1)
+}
+
+// The first so many codes, or `-`.
+fn put_codes(o: Output, count: usize, codes: &[u32]) -> Output {
+    if count == 0 {
+        return put(o, b'-');
+    }
+    let k = within_codes(count, codes);
+    let mut q = o;
+    for i in 0..k {
+        q = put_code(q, i, codes[i]);
+    }
+    q
+}
+
+fn put_state(o: Output, state: State) -> Output {
+    let raw = state.raw;
+    let bytes = raw.bytes;
+    put_bytes(put_byte(put_byte(o, raw.kind), raw.count), 14, &bytes)
+}
+
+// ---- commands
+
+// Why a line is refused. A word that is not of its kind has the number of the kind: 4 FLAGS, 5 ROOM, 6 BYTES, 7 CODES, 8 RECORD, 9 UNIT.
+const EMPTY: usize = 0;
+
+const UNKNOWN: usize = 1;
+
+const FEW: usize = 2;
+
+const MANY: usize = 3;
+
+const LONG: usize = 10;
+
+const FINE: usize = 11;
+
 // The reasons stand in the order of their numbers.
 fn put_error(o: Output, why: usize) -> Output {
     let reasons =
@@ -82,9 +380,9 @@ fn fits(kind: u8, s: &[u8]) -> bool {
     match kind {
         4 => number_of(s, 10, LONGEST, 0xFFFFFFFF).ok,
         5 => number_of(s, 10, LONGEST, 65536).ok,
-        6 => parse::is_bytes(s),
-        7 => parse::is_codes(s),
-        8 => s.len() == 32 && parse::is_bytes(s),
+        6 => is_bytes(s),
+        7 => is_codes(s),
+        8 => s.len() == 32 && is_bytes(s),
         _ => number_of(s, 16, 4, 0xFFFF).ok,
     }
 }
@@ -98,7 +396,7 @@ fn word_refusal(kinds: &[u8], s: &[u8]) -> usize {
         return MANY;
     }
     for k in 0..kinds.len() {
-        let kind = parse::digit(kinds[k]);
+        let kind = digit(kinds[k]);
         if !fits(kind, word(s, b' ', k + 1)) {
             return kind as usize;
         }
@@ -108,7 +406,7 @@ fn word_refusal(kinds: &[u8], s: &[u8]) -> usize {
 
 // The commands stand in the order of their numbers, and so do the kinds of words that each takes, below.
 fn command_of(s: &[u8]) -> usize {
-    parse::number_in(
+    number_in(
         b"read write step8 step16 step32 back reset start",
         word(s, b' ', 0),
     )
@@ -143,11 +441,11 @@ fn read(o: Output, s: &[u8], bytes: &mut [u8], codes: &mut [u32]) -> Output {
     let most = within_codes(room_of(s), codes);
     let r = decode::decode(&bytes[..m], &mut codes[..most], flags_of(s));
     let q = put_text(o, b"@ # ", r.number as u64, r.consumed as u64);
-    print::put_codes(q, r.produced, codes)
+    put_codes(q, r.produced, codes)
 }
 
 fn write(o: Output, s: &[u8], bytes: &mut [u8], codes: &mut [u32]) -> Output {
-    let m = parse::codes_of(word(s, b' ', 3), codes);
+    let m = codes_of(word(s, b' ', 3), codes);
     let most = within_bytes(room_of(s), bytes);
     let r = encode::encode(&codes[..m], &mut bytes[..most], flags_of(s));
     let q = put_text(o, b"@ # ", r.number as u64, r.consumed as u64);
@@ -311,12 +609,12 @@ fn held_after(o: Output, len: usize) -> usize {
 // Answers the lines that end in the chunk. This answers the length of the line that goes on.
 fn feed(chunk: &[u8], len: usize, line: &mut [u8], bytes: &mut [u8], codes: &mut [u32]) -> usize {
     let mut held = len;
-    let mut o = print::empty();
+    let mut o = empty();
     for i in 0..chunk.len() {
         o = answer(o, chunk[i], line, held, bytes, codes);
         held = keep(held, chunk[i], line);
     }
-    held_after(print::flush(o), held)
+    held_after(flush(o), held)
 }
 
 // Reads once, and answers how many of the chunk's bytes came. At the end of the input a line that has no newline gets one.

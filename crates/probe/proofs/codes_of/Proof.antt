@@ -4,8 +4,8 @@ use Prim.Native.Nat.{_-_, _≤_}
 use native.Mathlib.Omega.{arith}
 use lib.ListN.{length, length-set}
 use lib.Seq.{length-take-le}
-use Rattle.probe.proofs.parse.codes_of.Statement.{statement}
-use Rattle.probe.proofs.parse.codes_of.Tie as tie
+use Rattle.probe.proofs.codes_of.Statement.{statement}
+use Rattle.probe.proofs.codes_of.Tie as tie
 
 abbrev Inv-loop : tie.InvT-loop
 Inv-loop s out₀ from₀ n₀ out from n = (from ≤ length s) × (n ≤ length out) × (length out ≡ length out₀)

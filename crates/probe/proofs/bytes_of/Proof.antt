@@ -4,8 +4,8 @@ use Prim.Native.Nat.{_-_, _≤_}
 use native.Mathlib.Omega.{arith}
 use lib.ListN.{length, length-set}
 use lib.Seq.{length-take-le}
-use Rattle.probe.proofs.parse.bytes_of.Statement.{statement}
-use Rattle.probe.proofs.parse.bytes_of.Tie as tie
+use Rattle.probe.proofs.bytes_of.Statement.{statement}
+use Rattle.probe.proofs.bytes_of.Tie as tie
 
 abbrev Inv-loop : tie.InvT-loop
 Inv-loop s out₀ n i₀ out i = (i ≤ n) × (n ≤ length out) × (length out ≡ length out₀)

@@ -2,8 +2,8 @@
 use Prim.Native.Nat.{_+_, _-_, _≤_}
 use native.Mathlib.Omega.{arith}
 use lib.ListN.{length}
-use Rattle.probe.proofs.parse.is_codes.Statement.{statement}
-use Rattle.probe.proofs.parse.is_codes.Tie as tie
+use Rattle.probe.proofs.is_codes.Statement.{statement}
+use Rattle.probe.proofs.is_codes.Tie as tie
 
 abbrev Inv-loop : tie.InvT-loop
 Inv-loop s from₀ from = from ≤ length s + 1

@@ -2,8 +2,8 @@
 use Prim.Native.Nat.{_-_, _≤_}
 use native.Mathlib.Omega.{arith}
 use lib.ListN.{length}
-use Rattle.probe.proofs.parse.number_in.Statement.{statement}
-use Rattle.probe.proofs.parse.number_in.Tie as tie
+use Rattle.probe.proofs.number_in.Statement.{statement}
+use Rattle.probe.proofs.number_in.Tie as tie
 
 abbrev Inv-loop : tie.InvT-loop
 Inv-loop list name k₀ k-end k = k ≤ length list

@@ -2,8 +2,8 @@
 use Prim.Native.Nat.{_-_, _≤_}
 use native.Mathlib.Omega.{arith}
 use lib.ListN.{length}
-use Rattle.probe.proofs.parse.number_of.Statement.{statement}
-use Rattle.probe.proofs.parse.number_of.Tie as tie
+use Rattle.probe.proofs.number_of.Statement.{statement}
+use Rattle.probe.proofs.number_of.Tie as tie
 
 abbrev Inv-loop : tie.InvT-loop
 Inv-loop s base digits largest value₀ i₀ i-end value i = (i ≤ length s) × (value ≤ largest)

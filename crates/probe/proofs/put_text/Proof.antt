@@ -2,8 +2,8 @@
 use Prim.Native.Nat.{_-_, _≤_}
 use native.Mathlib.Omega.{arith}
 use lib.ListN.{length}
-use Rattle.probe.proofs.print.put_text.Statement.{statement}
-use Rattle.probe.proofs.print.put_text.Tie as tie
+use Rattle.probe.proofs.put_text.Statement.{statement}
+use Rattle.probe.proofs.put_text.Tie as tie
 
 abbrev Inv-loop : tie.InvT-loop
 Inv-loop words unit count q₀ i₀ i-end q i = i ≤ length words

@@ -2,8 +2,8 @@
 use Prim.Native.Nat.{_-_, _≤_}
 use native.Mathlib.Omega.{arith}
 use lib.ListN.{length}
-use Rattle.probe.proofs.parse.start_of.Statement.{statement}
-use Rattle.probe.proofs.parse.start_of.Tie as tie
+use Rattle.probe.proofs.start_of.Statement.{statement}
+use Rattle.probe.proofs.start_of.Tie as tie
 
 abbrev Inv-loop : tie.InvT-loop
 Inv-loop s b k from₀ -i₀ from -i = (from ≤ length s) × (-i ≤ k)

@@ -2,8 +2,8 @@
 use Prim.Native.Nat.{_-_, _≤_}
 use native.Mathlib.Omega.{arith}
 use lib.ListN.{length}
-use Rattle.probe.proofs.parse.all_digits.Statement.{statement}
-use Rattle.probe.proofs.parse.all_digits.Tie as tie
+use Rattle.probe.proofs.all_digits.Statement.{statement}
+use Rattle.probe.proofs.all_digits.Tie as tie
 
 abbrev Inv-loop : tie.InvT-loop
 Inv-loop s i₀ i-end i = i ≤ length s

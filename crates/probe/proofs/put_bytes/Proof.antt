@@ -2,8 +2,8 @@
 use Prim.Native.Nat.{_-_, _≤_}
 use native.Mathlib.Omega.{arith}
 use lib.ListN.{length}
-use Rattle.probe.proofs.print.put_bytes.Statement.{statement}
-use Rattle.probe.proofs.print.put_bytes.Tie as tie
+use Rattle.probe.proofs.put_bytes.Statement.{statement}
+use Rattle.probe.proofs.put_bytes.Tie as tie
 
 abbrev Inv-loop : tie.InvT-loop
 Inv-loop count bytes k q₀ i₀ q i = (i ≤ k) × (k ≤ length bytes)

@@ -2,8 +2,8 @@
 use Prim.Native.Nat.{_-_, _≤_}
 use native.Mathlib.Omega.{arith}
 use lib.ListN.{length}
-use Rattle.probe.proofs.print.put_digits.Statement.{statement}
-use Rattle.probe.proofs.print.put_digits.Tie as tie
+use Rattle.probe.proofs.put_digits.Statement.{statement}
+use Rattle.probe.proofs.put_digits.Tie as tie
 
 abbrev Inv-loop : tie.InvT-loop
 Inv-loop digits q₀ i₀ i-end q i = i ≤ length digits

@@ -2,8 +2,8 @@
 use Prim.Native.Nat.{_-_, _≤_}
 use native.Mathlib.Omega.{arith}
 use lib.ListN.{length}
-use Rattle.probe.proofs.print.put_codes.Statement.{statement}
-use Rattle.probe.proofs.print.put_codes.Tie as tie
+use Rattle.probe.proofs.put_codes.Statement.{statement}
+use Rattle.probe.proofs.put_codes.Tie as tie
 
 abbrev Inv-loop : tie.InvT-loop
 Inv-loop count codes k q₀ i₀ q i = (i ≤ k) × (k ≤ length codes)
