@@ -1,8 +1,8 @@
 // What the reading steps share: held bytes, advanced over the input.
 use classify::Form;
-use classify::Front;
-use state::Kind;
+use front::Front;
 use state::Record;
+use validity::Kind;
 ghost use mathlib.Core.Path.{_≡_};
 ghost use Prim.Native.Nat.{_+_, _≤_, min};
 ghost use lib.Seq.{paste};
@@ -87,7 +87,7 @@ fn read(form: Form, s: Record, input: &[u8]) -> Advanced
     let w = gather(held, n, input);
     let bytes = w.bytes;
     let k = w.count;
-    match classify::front_of(form, &bytes[..k]) {
+    match front::front_of(form, &bytes[..k]) {
         Front::Partial(_) => {
             if k == 0 {
                 return done(Answer::Incomplete, state::start());
@@ -116,7 +116,7 @@ pub fn advance(form: Form, s: Record, input: &[u8]) -> Advanced
     ensures { λ r. ⌜ Advances (rowsOf form) s (now (input .entry)) r ⌝ }
 {
     let b = s.bytes;
-    match state::kind_of(form, s) {
+    match validity::kind_of(form, s) {
         Kind::Starting => read(form, s, input),
         Kind::Partial => read(form, s, input),
         Kind::Trail => Advanced {

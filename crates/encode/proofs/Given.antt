@@ -15,8 +15,8 @@ use Rattle.form.specs.Text.{sequence}
 use Rattle.form.proofs.Rows.{in-true, true-in, false-in}
 use Rattle.form.proofs.Utf8.{scalar-below}
 use Rattle.form.proofs.Sequences.{Kind, scalar, surrogate, beyond, kind, scalar-outside, plain-scalar, plain-surrogate, plain-none, surro-all, surro-none, writer-rows, One-to-four, pattern-bytes}
-use Rattle.encode.specs.declared.Coded.{Coded}
-use Rattle.encode.specs.Leaf.{codedOf}
+use Rattle.sequence.specs.declared.Coded.{Coded}
+use Rattle.sequence.specs.Leaf.{codedOf}
 use Rattle.encode.specs.Writing.{refuses, bytes}
 
 -- ---- which codes are refused

@@ -1,84 +1,16 @@
 // The whole-buffer writer: codes to bytes.
 use classify::Form;
 use flags::Flags;
+use sequence::Coded;
 ghost use mathlib.Core.Path.{_≡_};
 ghost use mathlib.Core.Bool.{cond};
 ghost use mathlib.Core.List.{[], _++_};
 ghost use Prim.Native.Nat.{_+_, _≤_};
 ghost use lib.ListN.{length, drop};
 ghost use lib.Seq.{paste};
-ghost use Rattle.classify.specs.Lead.{rowsOf};
 ghost use Rattle.form.specs.Table.{plain};
-ghost use Rattle.form.specs.Pattern.{pattern};
-ghost use Rattle.form.specs.Text.{sequence};
-ghost use Rattle.encode.specs.Leaf.{codedOf};
+ghost use Rattle.sequence.specs.Leaf.{codedOf};
 ghost use Rattle.encode.specs.Writing.{refuses, bytes, encoding, encodedOf};
-
-// The bytes of a code, from the first on, and how many; unused places are zero.
-pub struct Coded {
-    pub count: usize,
-    pub bytes: [u8; 4],
-}
-
-// Table 3-6: the code's bits, from the highest on, below the marks.
-fn bits_of(c: u32) -> Coded
-    requires { ⌜ c ≤ 0x10FFFF ⌝ }
-    ensures { λ r. ⌜ r ≡ codedOf (pattern c) ⌝ }
-{
-    if c < 0x80 {
-        return Coded {
-            count: 1,
-            bytes: [c as u8, 0, 0, 0],
-        };
-    }
-    let z = (0x80 + c % 0x40) as u8;
-    if c < 0x800 {
-        return Coded {
-            count: 2,
-            bytes: [(0xC0 + c / 0x40) as u8, z, 0, 0],
-        };
-    }
-    let y = (0x80 + c / 0x40 % 0x40) as u8;
-    if c < 0x10000 {
-        return Coded {
-            count: 3,
-            bytes: [(0xE0 + c / 0x1000) as u8, y, z, 0],
-        };
-    }
-    let x = (0x80 + c / 0x1000 % 0x40) as u8;
-    Coded {
-        count: 4,
-        bytes: [(0xF0 + c / 0x40000) as u8, x, y, z],
-    }
-}
-
-fn no_bytes() -> Coded
-    ensures { λ r. ⌜ r ≡ codedOf [] ⌝ }
-{
-    Coded {
-        count: 0,
-        bytes: [0, 0, 0, 0],
-    }
-}
-
-// The well-formed sequence of a code, or no bytes where the form has none for it.
-pub fn bytes_of(form: Form, c: u32) -> Coded
-    ensures { λ r. ⌜ r ≡ codedOf (sequence (rowsOf form) c) ⌝ }
-{
-    if 0x10FFFF < c {
-        return no_bytes();
-    }
-    if c < 0xD800 {
-        return bits_of(c);
-    }
-    if 0xDFFF < c {
-        return bits_of(c);
-    }
-    match form {
-        Form::Plain => no_bytes(),
-        Form::Surro => bits_of(c),
-    }
-}
 
 // The bytes that the writer writes for a code, or none where it refuses the code. With SURRO no code is an escape. STRICT alone refuses
 // the surrogates, which plain UTF-8 does not have. Without either an escape is its byte.
@@ -86,17 +18,17 @@ fn written(m: Flags, c: u32) -> Coded
     ensures { λ r. ⌜ r ≡ codedOf (cond (refuses m c) [] (bytes plain m c)) ⌝ }
 {
     if m.surro {
-        return bytes_of(Form::Surro, c);
+        return sequence::bytes_of(Form::Surro, c);
     }
     if m.strict {
-        return bytes_of(Form::Plain, c);
+        return sequence::bytes_of(Form::Plain, c);
     }
     match c {
         0xDC80..=0xDCFF => Coded {
             count: 1,
             bytes: [(c - 0xDC00) as u8, 0, 0, 0],
         },
-        _ => bytes_of(Form::Surro, c),
+        _ => sequence::bytes_of(Form::Surro, c),
     }
 }
 

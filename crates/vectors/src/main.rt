@@ -360,7 +360,7 @@ fn rest_in(
     let most = least(room, buffer.len());
     let mut told: u8 = 0xEE;
     let mut produced: usize = 0xEE;
-    let rest = decode::decode_rest(s, &mut buffer[..most], flags, &mut told, &mut produced);
+    let rest = rest::decode_rest(s, &mut buffer[..most], flags, &mut told, &mut produced);
     if produced != count {
         differs(b"the companion's count", vector);
     }

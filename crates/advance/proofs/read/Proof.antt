@@ -7,10 +7,10 @@ use borrow.Author.Needs.{needs}
 use lib.ListN.{length, take}
 use lib.Seq.{length-take-le}
 use Rattle.form.specs.Scan.{Found, scan}
-use Rattle.classify.specs.declared.Front.{Front}
+use Rattle.front.specs.declared.Front.{Front}
 use Rattle.classify.specs.Lead.{rowsOf}
 use Rattle.classify.proofs.Forms.{form-scans}
-use Rattle.classify.proofs.Told.{Finds, told-finds}
+use Rattle.front.proofs.Told.{Finds, told-finds}
 use Rattle.state.specs.declared.Record.{Record}
 use Rattle.advance.specs.declared.Window.{Window}
 use Rattle.advance.specs.declared.Advanced.{Advanced}

@@ -7,7 +7,7 @@ use lib.ListN.{length, getD}
 use borrow.Author.Needs.{needs, scaled-fits}
 use Rattle.flags.specs.declared.Flags.{Flags}
 use Rattle.flags.specs.Number.{flagsOf, writer-refuses}
-use Rattle.encode.specs.Leaf.{codedOf}
+use Rattle.sequence.specs.Leaf.{codedOf}
 use Rattle.encode.proofs.Given.{given, some-offered}
 use Rattle.encode.proofs.Places.{Reached, reached-start, reached-end, reached-refused, reached-full, reached-next, answered, refusal}
 use Rattle.encode.proofs.encode.Statement.{statement}
