@@ -4,71 +4,92 @@
  * What a packet leaves unread is put before the next packet.  Only the last packet is
  * read with UTF8B_LAST, so the beginning of the cut sign is never taken for bad bytes.
  */
-#include "utf8b.h"
+#include <utf8b.h>
 
 #include <stdio.h>
 #include <stdlib.h>
 #include <string.h>
 
-/* The bytes that are not read yet. */
+/* The bytes that are not read yet, and the codes that are. */
 struct line {
-    uint8_t bytes[64];
-    size_t len;
+    uint8_t unread[64], codes[256];
+    size_t unread_len, codes_len;
 };
+
+static size_t count_of(const uint8_t report[UTF8B_REPORT])
+{
+    size_t count = 0;
+
+    for (int i = UTF8B_REPORT; i-- > 0;)
+        count = count * 256 + report[i];
+    return count;
+}
+
+static size_t checked(int64_t answer)
+{
+    if (answer < 0) {
+        fprintf(stderr, "libutf8b answers %ld\n", (long)answer);
+        exit(1);
+    }
+    return (size_t)answer;
+}
 
 static void append(struct line *line, const uint8_t *packet, size_t len)
 {
-    if (len > sizeof line->bytes - line->len) {
+    if (len > sizeof line->unread - line->unread_len) {
         fputs("the line is too long\n", stderr);
         exit(1);
     }
-    memcpy(line->bytes + line->len, packet, len);
-    line->len += len;
+    memcpy(line->unread + line->unread_len, packet, len);
+    line->unread_len += len;
 }
 
-/* Drops the bytes that were consumed; the unread ones move to the front. */
-static void drop(struct line *line, const uint8_t *report)
+/* Reads on; the bytes that stay unread move to the front. */
+static void read_on(struct line *line, uint32_t flags)
 {
-    size_t consumed = 0;
+    uint8_t report[UTF8B_REPORT];
+    size_t consumed;
 
-    for (int i = UTF8B_REPORT; i-- > 0;)
-        consumed = consumed * 256 + report[i];
-    line->len -= consumed;
-    memmove(line->bytes, line->bytes + consumed, line->len);
-}
-
-static void show(const uint8_t *packet, size_t len, const uint8_t *codes, int64_t count, size_t unread)
-{
-    printf("packet");
-    for (size_t i = 0; i < len; i++)
-        printf(" %02X", packet[i]);
-    printf(" gives");
-    for (int64_t i = 0; i < count; i++, codes += 4)
-        printf(" U+%04lX", codes[0] | codes[1] << 8 | (unsigned long)codes[2] << 16);
-    printf(", unread: %u\n", (unsigned)unread);
+    line->codes_len += 4 * checked(utf8b_decode(line->unread, line->unread_len,
+                                                line->codes + line->codes_len, sizeof line->codes - line->codes_len,
+                                                flags, report, sizeof report));
+    consumed = count_of(report);
+    line->unread_len -= consumed;
+    memmove(line->unread, line->unread + consumed, line->unread_len);
 }
 
 static void receive(struct line *line, const uint8_t *packet, size_t len, uint32_t flags)
 {
-    uint8_t codes[4 * sizeof line->bytes], report[UTF8B_REPORT];
-    int64_t count;
+    const uint8_t *code = line->codes + line->codes_len;
 
     append(line, packet, len);
-    count = utf8b_decode(line->bytes, line->len, codes, sizeof codes, flags, report, sizeof report);
-    if (count < 0) {
-        fprintf(stderr, "utf8b_decode answers %ld\n", (long)count);
-        exit(1);
-    }
-    drop(line, report);
-    show(packet, len, codes, count, line->len);
+    read_on(line, flags);
+    printf("packet");
+    for (size_t i = 0; i < len; i++)
+        printf(" %02X", packet[i]);
+    printf(" gives");
+    for (; code < line->codes + line->codes_len; code += 4)
+        printf(" U+%04lX", code[0] | code[1] << 8 | (unsigned long)code[2] << 16);
+    printf(", unread: %u\n", (unsigned)line->unread_len);
+}
+
+static void show(const struct line *line)
+{
+    uint8_t bytes[sizeof line->codes], report[UTF8B_REPORT];
+    size_t len = checked(utf8b_encode(line->codes, line->codes_len, bytes, sizeof bytes, 0, report, sizeof report));
+
+    printf("line ");
+    fwrite(bytes, 1, len, stdout);
+    printf("\n");
 }
 
 int main(void)
 {
     static const uint8_t first[] = {0x34, 0x30, 0xE2, 0x80}, last[] = {0xB2};
-    struct line line = {{0}, 0};
+    struct line line = {{0}, {0}, 0, 0};
 
     receive(&line, first, sizeof first, 0);
     receive(&line, last, sizeof last, UTF8B_LAST);
-    return line.len == 0 ? 0 : 1;
+    show(&line);
+    return line.unread_len == 0 ? 0 : 1;
 }
