@@ -22,6 +22,10 @@ run: archive
 test:
 	.ci/run
 
+# ROUNDS=n for another number of rounds.
+bench:
+	@CC="$(CC)" bench/run $(ROUNDS)
+
 install: archive
 	mkdir -p $(include_dir) $(lib_dir)/pkgconfig $(man_dir)
 	install -m 644 include/utf8b.h $(include_dir)
