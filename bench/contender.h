@@ -26,6 +26,5 @@ extern const struct contender mbsnrtowcs_reader, mbrtoc32_reader, wcsnrtombs_wri
 extern const struct contender iconv_reader, iconv_writer;
 extern const struct contender rust_reader, rust_writer;
 extern const struct contender python_reader, python_writer;
-extern const char *const python_version;
 
 #endif

@@ -43,7 +43,7 @@ enum { TABLES = sizeof tables / sizeof tables[0] };
 static void *out;
 
 /* Drops the contenders that cannot run here. */
-static void keep_able(const struct contender **list)
+static void keep_able(const struct contender **list, const char *what)
 {
     size_t kept = 0;
 
@@ -54,7 +54,7 @@ static void keep_able(const struct contender **list)
         if (!one->start || one->start())
             list[kept++] = one;
         else
-            printf("- %s is left out: it cannot run here.\n", one->name);
+            printf("- %s is left out as a %s: it cannot run here.\n", one->name, what);
     }
 }
 
@@ -155,9 +155,8 @@ int main(int argc, char **argv)
         fputs("usage: bench ROUNDS\n", stderr);
         return 2;
     }
-    show_versions();
-    keep_able(readers);
-    keep_able(writers);
+    keep_able(readers, "reader");
+    keep_able(writers, "writer");
     out = new_memory(WHOLE * sizeof(uint32_t));
     make_corpora();
     for (int i = 0; i < CORPORA; i++) {

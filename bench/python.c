@@ -6,7 +6,7 @@
 
 #include <string.h>
 
-const char *const python_version = PY_VERSION;
+#define NAME "CPython " PY_VERSION
 
 static PyObject *last;
 
@@ -62,6 +62,6 @@ static void fetch_bytes(void *out, size_t room)
 }
 
 const struct contender python_reader = {
-    .name = "CPython", .start = start, .run = python_read, .fetch = fetch_codes};
+    .name = NAME, .start = start, .run = python_read, .fetch = fetch_codes};
 const struct contender python_writer = {
-    .name = "CPython", .start = start, .prepare = str_of, .run = python_write, .fetch = fetch_bytes};
+    .name = NAME, .start = start, .prepare = str_of, .run = python_write, .fetch = fetch_bytes};

@@ -1,63 +1,22 @@
 #include "table.h"
 
 #include <stdio.h>
-#include <string.h>
-
-#ifdef __GLIBC__
-#include <gnu/libc-version.h>
-#endif
-
-static void show_processor(void)
-{
-    static const char key[] = "model name";
-    FILE *f = fopen("/proc/cpuinfo", "r");
-    char line[256] = "";
-
-    while (f && fgets(line, sizeof line, f) && strncmp(line, key, sizeof key - 1) != 0)
-        ;
-    if (f)
-        fclose(f);
-    if (strchr(line, ':'))
-        printf("- Processor%s", strchr(line, ':'));
-}
-
-void show_versions(void)
-{
-    show_processor();
-#ifdef __clang__
-    puts("- C compiler: " __VERSION__);
-#else
-    puts("- C compiler: gcc " __VERSION__);
-#endif
-#ifdef __GLIBC__
-    printf("- C library: glibc %s\n", gnu_get_libc_version());
-#endif
-#ifdef RUST
-    puts("- Rust " RUST);
-#else
-    puts("- Rust is left out: there is no rustc.");
-#endif
-#ifdef PYTHON
-    printf("- CPython %s\n", python_version);
-#else
-    puts("- CPython is left out: there is no python3-config --embed, or no library to link.");
-#endif
-}
 
 void show_conditions(int rounds)
 {
-    printf("- The least thread-CPU time of %d rounds; in each, every contender runs once on every corpus.\n", rounds);
-    puts("- Outputs were found equal before the timing. Buffers were touched before it, and are not cleared between runs.");
+    printf("- Least thread-CPU time of %d rounds; in each round every contender runs once on every corpus.\n", rounds);
+    puts("- Outputs were found equal before the timing.");
+    puts("- Buffers were touched before the timing. They are not cleared between runs.");
     printf("- Short lines: %d of %d to %d bytes, cut from each corpus; one call a line.\n", LINES, SHORTEST, LONGEST);
-    puts("- The entries take at most 1 MiB a buffer: 1 MiB of UTF-8 is one to four calls. The others take it in one,\n"
+    puts("- An entry takes at most 1 MiB a buffer: 1 MiB of UTF-8 is one to four calls. The others take it in one,\n"
          "  but mbrtoc32 is called code by code.");
-    puts("- Functions of ours, of Rust and of the benchmark begin at a multiple of 64 bytes; those of the C library and\n"
-         "  of CPython stand where their shared libraries have them.");
-    puts("- CPython's times include the making of its str or bytes; a str has 1, 2 or 4 bytes a code.");
+    puts("- Functions of ours, of Rust and of the benchmark begin at a multiple of 64 bytes. Those of the C library\n"
+         "  and of CPython stand where their shared libraries have them.");
+    puts("- CPython's times include the making of its str or bytes. A str has 1, 2 or 4 bytes a code.");
     puts("- On random bytes mbrtoc32 and iconv are called again after each bad byte, which the caller escapes;\n"
          "  mbsnrtowcs and wcsnrtombs do not tell how far they came, and are not timed there.");
-    puts("\nThe first column is the C entry's time. The others are a contender's time divided by it: above 1, it takes\n"
-         "longer than the entry.");
+    puts("\nThe first column is the C entry's time. The others are a contender's time divided by it: above 1, it\n"
+         "takes longer than the entry.");
 }
 
 static void show_row(const struct table *t, int corpus)

@@ -28,9 +28,6 @@ struct table {
     struct job jobs[CORPORA][MOST];
 };
 
-/* The machine, and what was built. */
-void show_versions(void);
-
 /* How it was measured. */
 void show_conditions(int rounds);
 
