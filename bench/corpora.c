@@ -25,7 +25,8 @@ void *new_memory(size_t size)
     return memset(p, 0xA5, size);
 }
 
-/* Each text is given code by code. */
+/* The texts, code by code. */
+
 static uint32_t next_ascii(void)
 {
     return below(6) ? 'a' + below(26) : ' ';
@@ -92,8 +93,8 @@ static void fill(struct text *t, uint32_t (*next)(void))
         t->bytes[t->len] = next ? '.' : (uint8_t)below(256);
 }
 
-/* Whether a byte of a text goes on with a code. */
-static int inside(uint8_t b)
+/* Whether a byte of a text is a later one of its sequence. */
+static int is_later(uint8_t b)
 {
     return (b & 0xC0) == 0x80;
 }
@@ -103,9 +104,9 @@ static size_t line_length(const uint8_t *s, int is_text)
 {
     size_t len = SHORTEST + below(LONGEST - SHORTEST + 1);
 
-    while (is_text && len > SHORTEST && inside(s[len]))
+    while (is_text && len > SHORTEST && is_later(s[len]))
         len--;
-    while (is_text && inside(s[len]))
+    while (is_text && is_later(s[len]))
         len++;
     return len;
 }
