@@ -10,8 +10,8 @@ void show_conditions(int rounds)
     printf("- Short lines: %d of %d to %d bytes, cut from each corpus; one call a line.\n", LINES, SHORTEST, LONGEST);
     puts("- An entry takes at most 1 MiB a buffer: 1 MiB of UTF-8 is one to four calls. The others take it in one,\n"
          "  but mbrtoc32 is called code by code.");
-    puts("- Functions of ours, of Rust and of the benchmark begin at a multiple of 64 bytes; where a loop stands inside\n"
-         "  them can still make some 10 %. Those of the C library and of CPython stand where their libraries have them.");
+    puts("- Functions of ours, of Rust and of the benchmark begin at a multiple of 64 bytes; where a loop stands in\n"
+         "  its function can still make some 10 %. Those of the C library and of CPython are not moved.");
     puts("- CPython's times include the making of its str or bytes. A str has 1, 2 or 4 bytes a code.");
     puts("- On random bytes mbrtoc32 and iconv are called again after each bad byte, which the caller escapes;\n"
          "  mbsnrtowcs and wcsnrtombs do not tell how far they came, and are not timed there.");
