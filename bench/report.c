@@ -14,7 +14,7 @@ void show_conditions(int rounds)
          "  its function can still make some 10 %. Those of the C library and of CPython are not moved.");
     puts("- CPython's times include the making of its str or bytes. A str has 1, 2 or 4 bytes a code.");
     puts("- On random bytes mbrtoc32 and iconv are called again after each bad byte, which the caller escapes;\n"
-         "  mbsnrtowcs and wcsnrtombs do not tell how far they came, and are not timed there.");
+         "  mbsnrtowcs and wcsnrtombs do not tell there how much they have put, and are not timed.");
     puts("\nThe first column is the C entry's time. The others are a contender's time divided by it: above 1, it\n"
          "takes longer than the entry.");
 }
