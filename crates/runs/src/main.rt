@@ -51,14 +51,29 @@ fn until(s: &[u8], from: usize, b: u8) -> usize
     i
 }
 
-// The word after the byte at a place.
-fn word(s: &[u8], at: usize) -> &[u8] {
+// The word after the byte at a place, up to the next byte b.
+fn word(s: &[u8], at: usize, b: u8) -> &[u8] {
     if at < s.len() {
         let from = at + 1;
-        let end = until(s, from, b' ');
+        let end = until(s, from, b);
         return &s[from..end];
     }
     s
+}
+
+// The place before the name of number k, from 0, in a list of names with `|` before each.
+fn place_of(list: &[u8], k: usize) -> usize {
+    let mut at: usize = 0;
+    for _i in 0..k {
+        if at < list.len() {
+            at = until(list, at + 1, b'|');
+        }
+    }
+    at
+}
+
+fn name(list: &[u8], k: usize) -> &[u8] {
+    word(list, place_of(list, k), b'|')
 }
 
 // The value of a digit, or 16.
@@ -186,8 +201,10 @@ fn number_at(s: &[u8], at: usize, base: u8) -> Number {
         if base <= d {
             return Number { value, to };
         }
-        if value == 0 && at < i {
-            return Number { value, to: MISS };
+        if value == 0 {
+            if at < i {
+                return Number { value, to: MISS };
+            }
         }
         value = grown(value, d, base);
         i += 1;
@@ -236,14 +253,14 @@ fn past_units(s: &[u8], at: usize) -> usize {
 // What a step answers: which of the answers, the unit that came out, how many bytes it took or gave, how many had been held, and the
 // next state.
 struct Outcome {
-    answer: u8,
+    answer: usize,
     unit: u64,
     count: u64,
     held: u64,
     next: State,
 }
 
-fn tell(answer: u8, unit: u64, count: u64, held: u64, next: State) -> Outcome {
+fn tell(answer: usize, unit: u64, count: u64, held: u64, next: State) -> Outcome {
     Outcome {
         answer,
         unit,
@@ -278,26 +295,20 @@ fn told_back(r: SteppedBack) -> Outcome {
     }
 }
 
-fn step(width: u8, s: State, input: &[u8]) -> Outcome {
+// The width is 0 for 8-bit units, 1 for 16-bit units and 2 for wide codes.
+fn step(width: usize, s: State, input: &[u8]) -> Outcome {
     match width {
-        8 => told(s.step8(input), input.len()),
-        16 => told(s.step16(input), input.len()),
+        0 => told(s.step8(input), input.len()),
+        1 => told(s.step16(input), input.len()),
         _ => told(s.step32(input), input.len()),
     }
 }
 
 // The answer and its number.
-fn past_answer(s: &[u8], at: usize, answer: u8) -> usize {
-    match answer {
-        0 => past(s, at, b" refused 5"),
-        1 => past(s, at, b" continuation 0"),
-        2 => past(s, at, b" incomplete 2"),
-        3 => past(s, at, b" bad 3"),
-        4 => past(s, at, b" null 0"),
-        5 => past(s, at, b" unit 0"),
-        6 => past(s, at, b" held 0"),
-        _ => past(s, at, b" bytes 0"),
-    }
+fn past_answer(s: &[u8], at: usize, answer: usize) -> usize {
+    let answers =
+        b"| refused 5| continuation 0| incomplete 2| bad 3| null 0| unit 0| held 0| bytes 0";
+    past(s, at, name(answers, answer))
 }
 
 // What follows the unit or the bytes.
@@ -350,8 +361,47 @@ fn packet_end(i: usize, j: usize, n: usize, r: Run) -> usize
     n
 }
 
+fn ended(s: &[u8], from: usize, at: usize, place: u64, state: State) -> Run {
+    Run {
+        state,
+        fed: 0,
+        packets: 3,
+        to: past_end(s, from, at, place, state),
+        done: true,
+    }
+}
+
+// A unit of a run, after a comma if it is not the first.
+fn past_unit(s: &[u8], from: usize, at: usize, unit: u64) -> usize {
+    if unit == NONE {
+        return at;
+    }
+    if at == from {
+        return past_number(s, at, unit, 16);
+    }
+    past_number(s, past(s, at, b","), unit, 16)
+}
+
+// The packets used up, once the bytes up to a place are consumed.
+fn packets_after(packets: usize, fed: usize, end: usize) -> usize {
+    if fed == end {
+        return least(packets, 2) + 1;
+    }
+    packets
+}
+
+// Whether nothing came out after the last of n bytes.
+fn is_over(t: Outcome, packets: usize, fed: usize, n: usize) -> bool {
+    if t.answer == 2 {
+        if packets == 3 {
+            return fed == n;
+        }
+    }
+    false
+}
+
 // One call. A run is done at a bad answer, and when nothing comes out after the last byte.
-fn turn(width: u8, input: &[u8], i: usize, j: usize, s: &[u8], from: usize, r: Run) -> Run {
+fn turn(width: usize, input: &[u8], i: usize, j: usize, s: &[u8], from: usize, r: Run) -> Run {
     let end = packet_end(i, j, input.len(), r);
     let fed = least(r.fed, end);
     let state = r.state;
@@ -359,46 +409,23 @@ fn turn(width: u8, input: &[u8], i: usize, j: usize, s: &[u8], from: usize, r: R
     let next = t.next;
     if t.held != NONE {
         let place = std::num::wrapping_sub_u64(fed as u64, t.held);
-        return Run {
-            state: next,
-            fed,
-            packets: 3,
-            to: past_end(s, from, r.to, place, next),
-            done: true,
-        };
+        return ended(s, from, r.to, place, next);
     }
-    if t.answer == 2 && r.packets == 3 && fed == input.len() {
-        return Run {
-            state: next,
-            fed,
-            packets: 3,
-            to: past_end(s, from, r.to, NONE, next),
-            done: true,
-        };
+    if is_over(t, r.packets, fed, input.len()) {
+        return ended(s, from, r.to, NONE, next);
     }
-    let mut to = r.to;
-    if t.unit != NONE {
-        if to != from {
-            to = past(s, to, b",");
-        }
-        to = past_number(s, to, t.unit, 16);
-    }
-    let mut packets = r.packets;
     let after = std::num::wrapping_add_usize(fed, t.count as usize);
-    if after == end {
-        packets = least(packets, 2) + 1;
-    }
     Run {
         state: next,
         fed: after,
-        packets,
-        to,
+        packets: packets_after(r.packets, after, end),
+        to: past_unit(s, from, r.to, t.unit),
         done: false,
     }
 }
 
 // A run is over after 200 calls, or misses.
-fn run_cut(width: u8, input: &[u8], i: usize, j: usize, s: &[u8], at: usize) -> usize {
+fn run_cut(width: usize, input: &[u8], i: usize, j: usize, s: &[u8], at: usize) -> usize {
     let from = past(s, at, b" ");
     let mut r = Run {
         state: State {
@@ -420,15 +447,17 @@ fn run_cut(width: u8, input: &[u8], i: usize, j: usize, s: &[u8], at: usize) -> 
 }
 
 // Every cut into three packets, and one byte a packet.
-fn runs(width: u8, input: &[u8], s: &[u8], at: usize) -> usize {
+fn runs(width: usize, input: &[u8], s: &[u8], at: usize) -> usize {
     let n = input.len();
     let cuts: usize = 33 * 33;
     for k in 0..cuts {
         let i = k / 33;
         let j = k % 33;
-        if i <= j && j <= n {
-            if run_cut(width, input, i, j, s, at) != s.len() {
-                return MISS;
+        if i <= j {
+            if j <= n {
+                if run_cut(width, input, i, j, s, at) != s.len() {
+                    return MISS;
+                }
             }
         }
     }
@@ -477,11 +506,11 @@ fn judged(s: &[u8], to: usize) -> bool {
     true
 }
 
-fn step_line(width: u8, s: &[u8], from: usize) -> bool {
+fn step_line(width: usize, s: &[u8], from: usize) -> bool {
     let mut bytes = [0u8; 32];
-    let state = state_of(word(s, from));
+    let state = state_of(word(s, from, b' '));
     let mut at = past_state(s, from, state);
-    let n = bytes_of(word(s, at), &mut bytes);
+    let n = bytes_of(word(s, at, b' '), &mut bytes);
     at = past_word(s, at, &bytes, n);
     at = past(s, at, b" =");
     if at == MISS {
@@ -494,48 +523,57 @@ fn step_line(width: u8, s: &[u8], from: usize) -> bool {
     judged(s, past_rest(s, at, t))
 }
 
+// What a step back gives stands from a place on.
+fn judged_back(s: &[u8], from: usize, r: SteppedBack) -> bool {
+    let t = told_back(r);
+    let bytes = r.bytes;
+    let at = past_word(s, past_answer(s, from, t.answer), &bytes, r.count);
+    judged(s, past_rest(s, at, t))
+}
+
 fn back_line(s: &[u8], from: usize) -> bool {
-    let state = state_of(word(s, from));
-    let mut at = past_state(s, from, state);
+    let state = state_of(word(s, from, b' '));
+    let at = past_state(s, from, state);
     let u = number_at(s, past(s, at, b" "), 16);
-    at = past(s, u.to, b" =");
-    if at == MISS {
+    let to = past(s, u.to, b" =");
+    if to == MISS {
         return false;
     }
     if 0xFFFF < u.value {
         return false;
     }
-    let r = state.step_back(u.value as u16);
-    let t = told_back(r);
-    let bytes = r.bytes;
-    at = past_answer(s, at, t.answer);
-    at = past_word(s, at, &bytes, r.count);
-    judged(s, past_rest(s, at, t))
+    judged_back(s, to, state.step_back(u.value as u16))
+}
+
+fn judged_reset(s: &[u8], at: usize, state: State) -> bool {
+    let r = state.reset();
+    let next = r.next;
+    judged(
+        s,
+        past_state(s, past_value(s, at, r.number as u64, 10), next),
+    )
+}
+
+fn judged_start(s: &[u8], at: usize, state: State) -> bool {
+    let yes = state.is_starting();
+    judged(s, past(s, at, name(b"| no| yes", yes as usize)))
 }
 
 fn state_line(reset: bool, s: &[u8], from: usize) -> bool {
-    let state = state_of(word(s, from));
+    let state = state_of(word(s, from, b' '));
     let at = past(s, past_state(s, from, state), b" =");
     if at == MISS {
         return false;
     }
     if reset {
-        let r = state.reset();
-        let next = r.next;
-        return judged(
-            s,
-            past_state(s, past_value(s, at, r.number as u64, 10), next),
-        );
+        return judged_reset(s, at, state);
     }
-    if state.is_starting() {
-        return judged(s, past(s, at, b" yes"));
-    }
-    judged(s, past(s, at, b" no"))
+    judged_start(s, at, state)
 }
 
-fn run_line(width: u8, s: &[u8], from: usize) -> bool {
+fn run_line(width: usize, s: &[u8], from: usize) -> bool {
     let mut bytes = [0u8; 32];
-    let n = bytes_of(word(s, from), &mut bytes);
+    let n = bytes_of(word(s, from, b' '), &mut bytes);
     let at = past(s, past_word(s, from, &bytes, n), b" =");
     if at == MISS {
         return false;
@@ -553,48 +591,30 @@ fn runback_line(s: &[u8], from: usize) -> bool {
     judged(s, run_back(s, units, at))
 }
 
+// The number of a command, or 10.
+fn command_of(word: &[u8]) -> usize {
+    let commands = b"|step8|step16|step32|run8|run16|run32|back|reset|start|runback";
+    let most: usize = 10;
+    for k in 0..most {
+        if check::same(name(commands, k), word) {
+            return k;
+        }
+    }
+    most
+}
+
 fn vector(s: &[u8]) -> bool {
-    let step8 = past(s, 0, b"step8");
-    if step8 != MISS {
-        return step_line(8, s, step8);
+    let from = until(s, 0, b' ');
+    let command = command_of(&s[0..from]);
+    match command {
+        0..=2 => step_line(command, s, from),
+        3..=5 => run_line(command - 3, s, from),
+        6 => back_line(s, from),
+        7 => state_line(true, s, from),
+        8 => state_line(false, s, from),
+        9 => runback_line(s, from),
+        _ => false,
     }
-    let step16 = past(s, 0, b"step16");
-    if step16 != MISS {
-        return step_line(16, s, step16);
-    }
-    let step32 = past(s, 0, b"step32");
-    if step32 != MISS {
-        return step_line(32, s, step32);
-    }
-    let back = past(s, 0, b"back");
-    if back != MISS {
-        return back_line(s, back);
-    }
-    let reset = past(s, 0, b"reset");
-    if reset != MISS {
-        return state_line(true, s, reset);
-    }
-    let start = past(s, 0, b"start");
-    if start != MISS {
-        return state_line(false, s, start);
-    }
-    let run8 = past(s, 0, b"run8");
-    if run8 != MISS {
-        return run_line(8, s, run8);
-    }
-    let run16 = past(s, 0, b"run16");
-    if run16 != MISS {
-        return run_line(16, s, run16);
-    }
-    let run32 = past(s, 0, b"run32");
-    if run32 != MISS {
-        return run_line(32, s, run32);
-    }
-    let runback = past(s, 0, b"runback");
-    if runback != MISS {
-        return runback_line(s, runback);
-    }
-    false
 }
 
 // How many vectors the line is: 1, or 0 for a remark and for a line that is no vector, which is told.
