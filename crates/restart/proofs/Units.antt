@@ -1,7 +1,7 @@
 -- The units of a code come out in order, and the step back makes its sequence of them again. Assumes nothing.
 use mathlib.Core.Path.{_≡_, refl, sym, ap, ap₂, _∙_}
 use mathlib.Core.Bool.{Bool, true, false}
-use mathlib.Core.List.{List, [], _∷_, _++_, map, append-nil}
+use mathlib.Core.List.{List, [], _∷_, _++_, map, append-nil, map-map, map-id}
 use Prim.Native.Nat.{ℕ, suc, _≤_, _<_}
 use native.Mathlib.Omega.{arith}
 use lib.Dec.{eqb}
@@ -13,13 +13,14 @@ use Rattle.form.specs.Scan.{well}
 use Rattle.form.specs.Pattern.{pattern}
 use Rattle.form.specs.Text.{sequence}
 use Rattle.form.proofs.Rows.{true-in, false-in}
-use Rattle.form.proofs.Utf8.{plain-scans, plain-pattern, scalar-below}
-use Rattle.form.proofs.Sequences.{scalar-outside, plain-scalar, pattern-bytes}
+use Rattle.form.proofs.Utf8.{plain-scans, plain-pattern}
+use Rattle.form.proofs.Sequences.{scalar-outside, plain-scalar}
 use Rattle.utf16.specs.Utf16.{highs, lows, utf16, paired}
 use Rattle.utf16.proofs.Laws.{Coded, alone, pair, scalar-units}
 use Rattle.state.specs.Meaning.{Meaning, starting, held, trail, low, high, Valid, valid, recordOf, senseOf}
 use Rattle.state.specs.declared.Record.{Record}
 use Rattle.units.specs.Width.{left}
+use Rattle.units.proofs.Splits.{sequence-few}
 use Rattle.advance.specs.Step.{continuation, Told, tell, to, reads, step}
 use Rattle.units.specs.Back as Back
 use Rattle.units.specs.Back.{step-back}
@@ -147,8 +148,7 @@ rest-due b c s u = go b (u .first) (u .rest) (u .are)
         by vs q (pair h l i j k) = let r : us ≡ l ∷ [] = cc in rw r (one l)
 
 told-units : (us : List ℕ) → map (λ (t : Told). t .unit) (map (λ u. tell continuation 0 u 0 0) us) ≡ us
-told-units [] = refl
-told-units (u ∷ us) = ap (λ (t : List ℕ). u ∷ t) (told-units us)
+told-units us = map-map (λ (t : Told). t .unit) (λ u. tell continuation 0 u 0 0) us ∙ map-id us
 
 pub whole : (b : Bits) (w : List ℕ) (c : ℕ) (is : List (List ℕ)) → Codes plain w c → suc (length is) ≡ length (width b .units c)
     → (map (λ (t : Told). t .unit) (answers b start (w ∷ is)) ≡ width b .units c) × (state-after b start (w ∷ is) ≡ start)
@@ -166,11 +166,10 @@ utf8-units w c d = let (s, e) = plain-pattern w c .0 d in plain-scalar c s ∙ s
 -- ---- the step back
 
 -- the bytes told are the sequence again
-told-bytes : (c : ℕ) → Scalar c → take (length (sequence plain c)) (take 4 (sequence plain c ++ (0 ∷ 0 ∷ 0 ∷ 0 ∷ []))) ++ [] ≡ sequence plain c
-told-bytes c s =
+told-bytes : (c : ℕ) → take (length (sequence plain c)) (take 4 (sequence plain c ++ (0 ∷ 0 ∷ 0 ∷ 0 ∷ []))) ++ [] ≡ sequence plain c
+told-bytes c =
     let w = sequence plain c in
-    let l : length w ≤ 4 = rw (plain-scalar c s) (pattern-bytes c (scalar-below c s) .1) in
-    append-nil _ ∙ take-take (length w) 4 (w ++ (0 ∷ 0 ∷ 0 ∷ 0 ∷ [])) l ∙ take-append-seam w (0 ∷ 0 ∷ 0 ∷ 0 ∷ [])
+    append-nil _ ∙ take-take (length w) 4 (w ++ (0 ∷ 0 ∷ 0 ∷ 0 ∷ [])) (sequence-few c) ∙ take-append-seam w (0 ∷ 0 ∷ 0 ∷ 0 ∷ [])
 
 back-alone : (c : ℕ) → Scalar c → c < 0x10000 → step-back start c ≡ Back.to (Back.tell Back.bytes 0 (sequence plain c) 0) starting
 unfolding step-back
@@ -189,8 +188,8 @@ pub back : (c : ℕ) → Scalar c → (bytes-back start (utf16 c) ≡ sequence p
 back c s = go (utf16 c) (scalar-units c s)
   where
     go : (us : List ℕ) → Coded c us → (bytes-back start us ≡ sequence plain c) × (state-back start us ≡ start)
-    go us (alone t l) = rw (state-back, back-alone c t l) (told-bytes c s, refl)
-    go us (pair h l p q e) = rw (state-back, back-high h p, back-low h l p q, e) (told-bytes c s, refl)
+    go us (alone t l) = rw (state-back, back-alone c t l) (told-bytes c, refl)
+    go us (pair h l p q e) = rw (state-back, back-high h p, back-low h l p q, e) (told-bytes c, refl)
 
 pub there-and-back : (w : List ℕ) (c : ℕ) (is : List (List ℕ)) → Codes plain w c → suc (length is) ≡ length (utf16 c)
     → bytes-back start (map (λ (t : Told). t .unit) (answers sixteen start (w ∷ is))) ≡ w
