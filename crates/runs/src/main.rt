@@ -19,7 +19,6 @@ use steps::Stepped;
 use steps::SteppedBack;
 use units::Back;
 ghost use Prim.Native.Nat.{_≤_};
-ghost use lib.ListN.{length};
 
 // A value that an answer does not have.
 const NONE: u64 = 0xFFFFFFFFFFFFFFFF;
@@ -36,26 +35,11 @@ fn least(a: usize, b: usize) -> usize
     if a < b { a } else { b }
 }
 
-// Where the byte b next stands, from an index on, or else the end.
-fn until(s: &[u8], from: usize, b: u8) -> usize
-    requires { ⌜ from ≤ length (now s) ⌝ }
-    ensures { λ r. ⌜ (from ≤ r) × (r ≤ length (now (s .entry))) ⌝ }
-{
-    let mut i = from;
-    while i < s.len() {
-        if s[i] == b {
-            return i;
-        }
-        i += 1;
-    }
-    i
-}
-
 // The word after the byte at a place, up to the next byte b.
 fn word(s: &[u8], at: usize, b: u8) -> &[u8] {
     if at < s.len() {
         let from = at + 1;
-        let end = until(s, from, b);
+        let end = bytes::scan::find(s, from, s.len(), b);
         return &s[from..end];
     }
     s
@@ -66,7 +50,7 @@ fn place_of(list: &[u8], k: usize) -> usize {
     let mut at: usize = 0;
     for _i in 0..k {
         if at < list.len() {
-            at = until(list, at + 1, b'|');
+            at = bytes::scan::find(list, at + 1, list.len(), b'|');
         }
     }
     at
@@ -604,7 +588,7 @@ fn command_of(word: &[u8]) -> usize {
 }
 
 fn vector(s: &[u8]) -> bool {
-    let from = until(s, 0, b' ');
+    let from = bytes::scan::find(s, 0, s.len(), b' ');
     let command = command_of(&s[0..from]);
     match command {
         0..=2 => step_line(command, s, from),
@@ -638,7 +622,7 @@ fn lines(data: &[u8]) -> usize {
     let mut at: usize = 0;
     let mut count: usize = 0;
     while at < data.len() {
-        let end = until(data, at, b'\n');
+        let end = bytes::scan::find(data, at, data.len(), b'\n');
         count += line(&data[at..end]);
         at = end + 1;
     }

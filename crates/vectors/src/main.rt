@@ -22,21 +22,6 @@ fn least(a: usize, b: usize) -> usize
     if a < b { a } else { b }
 }
 
-// Where the byte b next stands, from an index on, or else the end.
-fn until(s: &[u8], from: usize, b: u8) -> usize
-    requires { ⌜ from ≤ length (now s) ⌝ }
-    ensures { λ r. ⌜ (from ≤ r) × (r ≤ length (now (s .entry))) ⌝ }
-{
-    let mut i = from;
-    while i < s.len() {
-        if s[i] == b {
-            return i;
-        }
-        i += 1;
-    }
-    i
-}
-
 // The value of a digit, or 16.
 fn digit(b: u8) -> u8
     ensures { λ r. ⌜ r ≤ 16 ⌝ }
@@ -68,7 +53,7 @@ fn word_at(s: &[u8], k: usize) -> Word
 {
     let mut from: usize = 0;
     for _i in 0..k {
-        let end = until(s, from, b' ');
+        let end = bytes::scan::find(s, from, s.len(), b' ');
         if end == s.len() {
             return Word { from: end, to: end };
         }
@@ -76,7 +61,7 @@ fn word_at(s: &[u8], k: usize) -> Word
     }
     Word {
         from,
-        to: until(s, from, b' '),
+        to: bytes::scan::find(s, from, s.len(), b' '),
     }
 }
 
@@ -132,7 +117,7 @@ fn is_codes(s: &[u8]) -> bool {
     let most: usize = 16;
     let mut from: usize = 0;
     for _i in 0..most {
-        let end = until(s, from, b',');
+        let end = bytes::scan::find(s, from, s.len(), b',');
         if !is_code(&s[from..end]) {
             return false;
         }
@@ -190,7 +175,7 @@ fn codes_of(s: &[u8], out: &mut [u32]) -> usize
     let mut n: usize = 0;
     let mut from: usize = 0;
     while n < out.len() {
-        let end = until(s, from, b',');
+        let end = bytes::scan::find(s, from, s.len(), b',');
         out[n] = hexadecimal(&s[from..end]);
         n += 1;
         if end == s.len() {
@@ -498,7 +483,7 @@ fn run_all(data: &[u8]) -> usize {
     let mut at: usize = 0;
     let mut count: usize = 0;
     while at < data.len() {
-        let end = until(data, at, b'\n');
+        let end = bytes::scan::find(data, at, data.len(), b'\n');
         count += run(&data[at..end]);
         at = end + 1;
     }

@@ -15,8 +15,8 @@ abbrev μ-loop : tie.MeasureT-loop
 pub lines-spec : {M : Type 1} → statement M
 lines-spec =
     tie.close
-    (tie.spec Inv-loop μ-loop (λ c. (omega arith, omega arith)) (λ c κs. omega arith) (λ c. search needs) (λ c. search needs)
+    (tie.spec Inv-loop μ-loop (λ c. (omega arith, omega arith)) (λ c κs. (omega arith, omega arith)) (λ c. search needs) (λ c. search needs)
     (λ c. search needs) (λ c κs. search needs) (λ c. omega (arith, c .line .ensures)) (λ c. search needs)
-    (λ c. omega (arith, c .before .before .until .ensures .0, c .before .before .until .ensures .1))
-    (λ c. (omega (arith, c .before .before .until .ensures .1), omega (arith, c .line .ensures, c .before .before .until .ensures .0)))
+    (λ c. omega (arith, c .before .before .find .ensures .0, c .before .before .find .ensures .1))
+    (λ c. (omega (arith, c .before .before .find .ensures .1), omega (arith, c .line .ensures, c .before .before .find .ensures .0)))
     (λ c. search needs))

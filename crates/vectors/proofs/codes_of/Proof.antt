@@ -16,9 +16,9 @@ abbrev μ-loop : tie.MeasureT-loop
 pub codes-of-spec : {M : Type 1} → statement M
 codes-of-spec =
     tie.close
-    (tie.spec Inv-loop μ-loop (λ c. (omega arith, omega arith, refl)) (λ c κs. c .before .loop .inv .0) (λ c. search needs) (λ c. search needs)
+    (tie.spec Inv-loop μ-loop (λ c. (omega arith, omega arith, refl)) (λ c κs. (omega arith, omega arith)) (λ c. search needs) (λ c. search needs)
     (λ c. search needs) (λ c κs. search needs) (λ c. search needs) (λ c. search needs) (λ c. search needs) (λ c. search needs)
     (λ c. simp length-set (omega arith)) (λ c. search needs)
     (λ c. omega (arith, c .before .before .before .before .before .loop .inv .2))
-    (λ c. (omega (arith, c .before .before .before .until .ensures .1), simp length-set (omega arith), simp length-set (c .before .before .before .before .before .loop .inv .2)))
+    (λ c. (omega (arith, c .before .before .before .find .ensures .1), simp length-set (omega arith), simp length-set (c .before .before .before .before .before .loop .inv .2)))
     (λ c. search needs) (λ c. search needs))

@@ -15,7 +15,7 @@ abbrev μ-loop : tie.MeasureT-loop
 pub is-codes-spec : {M : Type 1} → statement M
 is-codes-spec =
     tie.close
-    (tie.spec Inv-loop μ-loop (λ c κs. search needs) (λ c. search needs) (λ c. (omega arith, omega arith)) (λ c κs. c .before .loop .inv .0)
+    (tie.spec Inv-loop μ-loop (λ c κs. search needs) (λ c. search needs) (λ c. (omega arith, omega arith)) (λ c κs. (omega arith, omega arith))
     (λ c. search needs) (λ c. search needs) (λ c. search needs) (λ c κs. search needs) (λ c. search needs) (λ c. search needs)
     (λ c. search needs) (λ c. search needs) (λ c. omega arith)
-    (λ c. (omega (arith, c .before .before .before .before .until .ensures .1), omega arith)) (λ c. search needs))
+    (λ c. (omega (arith, c .before .before .before .before .find .ensures .1), omega arith)) (λ c. search needs))

@@ -15,6 +15,6 @@ abbrev μ-loop : tie.MeasureT-loop
 pub word-at-spec : {M : Type 1} → statement M
 word-at-spec =
     tie.close
-    (tie.spec Inv-loop μ-loop (λ c. (omega arith, omega arith)) (λ c κs. c .before .loop .inv .0) (λ c. (omega arith, omega arith))
-    (λ c. search needs) (λ c. search needs) (λ c. omega arith) (λ c. (omega (arith, c .before .until .ensures .1), omega arith))
-    (λ c κs. c .before .loop .inv .0) (λ c. (c .until2 .ensures .0, c .until2 .ensures .1)))
+    (tie.spec Inv-loop μ-loop (λ c. (omega arith, omega arith)) (λ c κs. (omega arith, omega arith)) (λ c. (omega arith, omega arith))
+    (λ c. search needs) (λ c. search needs) (λ c. omega arith) (λ c. (omega (arith, c .before .find .ensures .1), omega arith))
+    (λ c κs. (omega arith, omega arith)) (λ c. (omega (arith, c .find2 .ensures .0), c .find2 .ensures .1)))
