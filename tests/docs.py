@@ -137,7 +137,12 @@ def sizes():
 
 
 def check_sizes():
-    rows = {m[0]: [int(n) for n in m[1:]] for m in re.findall(r"^\| `(\w+)` \| (\d+) \| (\d+) \| (\d+) \| (\d+) \|", text("docs/DESIGN.md"), re.M)}
+    names = defined_names()
+    rows = {}
+    for crate, *numbers, rest in re.findall(r"^\| `(\w+)` \| (\d+) \| (\d+) \| (\d+) \| (\d+) \|(.*)", text("docs/DESIGN.md"), re.M):
+        rows[crate] = [int(n) for n in numbers]
+        for name in QUOTED.findall(rest):
+            expect(name in names, f"docs/DESIGN.md: {crate}: no {name}")
     for crate, numbers in sizes():
         expect(rows.get(crate) == numbers, f"docs/DESIGN.md: {crate} has {numbers}")
     expect(set(rows) <= set(crates()), "docs/DESIGN.md: a crate that is not there")
