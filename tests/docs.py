@@ -123,9 +123,8 @@ def check_promises():
         expect(bool(part) == bool(edits), f"docs/PROMISES.md: the section of {crate}")
         expect(told == edits, f"docs/PROMISES.md: the edits of {crate}: {sorted(told ^ edits)}")
         expect(set(re.findall(r"^- \*\*`([\w:]+)`", part, re.M)) == functions, f"docs/PROMISES.md: the functions of {crate}")
-        for line in re.findall(r"(?:Definition|Theorems)\w*:.*", part):
-            for name in QUOTED.findall(line):
-                expect("/" in name or name in names, f"docs/PROMISES.md: {crate}: no {name}")
+        for name in set(QUOTED.findall(re.sub(r"Edits.*", "", part))):
+            expect(re.search(r"[/: ]", name) or name in names, f"docs/PROMISES.md: {crate}: no {name}")
 
 
 # ---- sizes
