@@ -15,7 +15,8 @@ use Rattle.decode.specs.Reading as D
 use Rattle.decode.specs.Reading.{Reading, decoding, decodedOf}
 use Rattle.decode.proofs.Readings.{follow-follow, follow-none}
 use Rattle.decode.proofs.Theorems.{resume, within, full-up, more-room}
-use Rattle.packed.specs.Bytes.{laid, over}
+use Rattle.numbers.specs.Number.{over}
+use Rattle.packed.specs.Bytes.{laid}
 use Rattle.packed.proofs.Bytes.{laid-length, laid-append}
 use Rattle.packed.proofs.Filled.{Filled, filled-none, filled-same, filled-part, filled-more}
 

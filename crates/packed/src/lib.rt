@@ -7,7 +7,8 @@ ghost use Prim.Native.Nat.{_+_, _*_, _/_, _≤_, min};
 ghost use lib.ListN.{length, take, drop};
 ghost use Rattle.decode.specs.Reading.{decoding, decodedOf};
 ghost use Rattle.encode.specs.Writing.{encoding, encodedOf};
-ghost use Rattle.packed.specs.Bytes.{low-first, laid, codesOf, over};
+ghost use Rattle.numbers.specs.Number.{low-first, over};
+ghost use Rattle.packed.specs.Bytes.{laid, codesOf};
 
 // The codes in a stretch.
 const STRETCH: usize = 256;

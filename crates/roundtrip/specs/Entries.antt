@@ -6,7 +6,7 @@ use Prim.Native.Nat.{ℕ, _*_, _≤_}
 use lib.IntN.{pos}
 use lib.ListN.{length}
 use Rattle.form.specs.Text.{Bytes}
-use Rattle.packed.specs.Bytes.{low-first, over}
+use Rattle.numbers.specs.Number.{low-first, over}
 use Rattle.utf8b.specs.Entry.{Entry, decode-entry, encode-entry}
 
 -- a buffer of so many bytes or more, within the limit

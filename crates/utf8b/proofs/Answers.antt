@@ -1,47 +1,15 @@
 -- The answer and the report of an entry. Assumes nothing.
-use mathlib.Core.Path.{_≡_, refl, sym, ap, _∙_}
-use mathlib.Core.List.{List, [], _∷_, _++_, append-nil}
-use Prim.Native.Nat.{ℕ, suc, _+_, _-_, _/_, _%_, _≤_, _<_}
-use native.Mathlib.Nat.{sub-zero}
-use native.Mathlib.Numerals.{add-one}
-use native.Mathlib.Omega.{arith}
+use mathlib.Core.Path.{_≡_, refl}
+use mathlib.Core.List.{List, []}
+use Prim.Native.Nat.{ℕ, _/_, _%_, _≤_}
 use lib.IntN.{ℤ, pos, negℤ}
-use lib.ListN.{length, set, take, length-set}
-use lib.Seq.{take-all, append-snoc, take-suc-set}
+use lib.ListN.{length}
 use borrow.Author.Tests.{eq-eqb, ne-eqb, le-leb}
 use Rattle.decode.specs.Reading.{decoding}
 use Rattle.encode.specs.Writing.{encoding}
-use Rattle.packed.specs.Bytes.{low-first, laid, codesOf, over}
+use Rattle.numbers.specs.Number.{low-first, over}
+use Rattle.packed.specs.Bytes.{laid, codesOf}
 use Rattle.utf8b.specs.Entry.{entry, answerOf, given, decode-entry, encode-entry}
-
--- the first i bytes of n are written to a buffer of k
-pub record Counted (n k : ℕ) (out : List ℕ) (left i : ℕ) : Type 0 where
-  pub within : i ≤ k
-  pub size : length out ≡ k
-  pub rest : take i out ++ low-first (k - i) left ≡ low-first k n
-
-pub counted-none : (n : ℕ) (out : List ℕ) → Counted n (length out) out n 0
-counted-none n out = record { within = omega arith; size = refl; rest = rw (sub-zero (length out)) refl }
-
-module _ (n k : ℕ) (out : List ℕ) (left i : ℕ) (c : Counted n k out left i) where
-  pub counted-next : i < k → Counted n k (set out i (left % 256)) (left / 256) (i + 1)
-  counted-next h =
-      let m : k - i ≡ suc (k - (i + 1)) = omega arith in
-      let t : take (i + 1) (set out i (left % 256)) ≡ take i out ++ (left % 256 ∷ []) = rw (add-one i) (take-suc-set out i (left % 256) (omega (arith, c .size))) in
-      record {
-        within = omega arith;
-        size = length-set out i (left % 256) ∙ c .size;
-        rest =
-            rw t (append-snoc (take i out) (left % 256) (low-first (k - (i + 1)) (left / 256)))
-            ∙ ap (λ (j : ℕ). take i out ++ low-first j left) (sym m)
-            ∙ c .rest;
-      }
-
-  pub counted-all : i ≡ k → out ≡ low-first k n
-  counted-all e =
-      let z : k - i ≡ 0 = omega arith in
-      let t : out ≡ take i out ++ low-first 0 left = sym (append-nil (take i out) ∙ take-all i out (omega (arith, c .size))) in
-      t ∙ ap (λ (j : ℕ). take i out ++ low-first j left) (sym z) ∙ c .rest
 
 -- refused flags: nothing was written
 pub refuses : (q k n : ℕ) (w d r p : List ℕ) → q ≡ 4 → w ≡ [] → p ≡ over w d → entry (negℤ (pos 4)) p r ≡ given q k n w d r

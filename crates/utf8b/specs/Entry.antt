@@ -7,7 +7,8 @@ use lib.IntN.{ℤ, pos, negℤ}
 use lib.ListN.{length}
 use Rattle.decode.specs.Reading.{decoding}
 use Rattle.encode.specs.Writing.{encoding}
-use Rattle.packed.specs.Bytes.{low-first, laid, codesOf, over}
+use Rattle.numbers.specs.Number.{low-first, over}
+use Rattle.packed.specs.Bytes.{laid, codesOf}
 
 -- the answer, and the output and the report at exit
 pub record Entry : Type 0 where

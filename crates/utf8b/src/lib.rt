@@ -1,8 +1,6 @@
 // The entries for C.
 ghost use mathlib.Core.Path.{_≡_};
 ghost use Prim.Native.Nat.{_≤_};
-ghost use lib.ListN.{length};
-ghost use Rattle.packed.specs.Bytes.{low-first};
 ghost use Rattle.utf8b.specs.Entry.{entry, answerOf, decode-entry, encode-entry};
 
 // The most bytes in an input or an output.
@@ -10,17 +8,6 @@ const LIMIT: usize = 1048576;
 
 // The bytes in a report.
 const REPORT: usize = 8;
-
-// A number, low byte first, in all of a buffer.
-fn put_count(n: usize, out: &mut [u8])
-    ensures { λ _. ⌜ now (out .exit) ≡ low-first (length (now (out .entry))) n ⌝ }
-{
-    let mut left = n;
-    for i in 0..out.len() {
-        out[i] = (left % 256) as u8;
-        left = left / 256;
-    }
-}
 
 // The items, or -1 for number 3 with none.
 fn answer(number: u8, items: usize) -> i64
@@ -54,7 +41,7 @@ pub extern "C" fn utf8b_decode(src: &[u8], codes: &mut [u8], flags: u32, report:
     if r.number == 4 {
         return -4;
     }
-    put_count(r.consumed, report);
+    numbers::put(r.consumed, report);
     answer(r.number, r.produced)
 }
 
@@ -79,6 +66,6 @@ pub extern "C" fn utf8b_encode(codes: &[u8], dst: &mut [u8], flags: u32, report:
     if r.number == 4 {
         return -4;
     }
-    put_count(r.consumed, report);
+    numbers::put(r.consumed, report);
     answer(r.number, r.produced)
 }

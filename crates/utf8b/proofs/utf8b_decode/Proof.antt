@@ -12,7 +12,8 @@ use Rattle.decode.specs.declared.Decoded.{Decoded}
 use Rattle.decode.specs.Reading.{Reading, stopped, decoding, decodedOf}
 use Rattle.decode.proofs.Readings.{refused-nothing}
 use Rattle.decode.proofs.Theorems.{refused-exactly, within}
-use Rattle.packed.specs.Bytes.{low-first, laid}
+use Rattle.numbers.specs.Number.{low-first}
+use Rattle.packed.specs.Bytes.{laid}
 use Rattle.utf8b.specs.Entry.{answerOf, given, decode-entry}
 use Rattle.utf8b.proofs.Answers.{refuses, tells, decode-given}
 use Rattle.utf8b.proofs.utf8b_decode.Statement.{statement}
@@ -58,8 +59,8 @@ unfolding decodedOf
 returns-5 c =
     let t = c .before .before .before in
     let d = t .before .before .before .before .before .before in
-    let count = t .put-count .ensures ∙ ap (λ (k : ℕ). low-first k (d .decode-packed .result .consumed)) (d .before .before .before .before .if1 .left) in
-    let told = subst (λ (x : Decoded). (c .answer .result ≡ answerOf (x .number) (x .produced)) × (t .put-count .last .1 .0 ≡ low-first 8 (x .consumed))) (d .decode-packed .ensures .0) (c .answer .ensures, count) in
+    let count = t .put .ensures ∙ ap (λ (k : ℕ). low-first k (d .decode-packed .result .consumed)) (d .before .before .before .before .if1 .left) in
+    let told = subst (λ (x : Decoded). (c .answer .result ≡ answerOf (x .number) (x .produced)) × (t .put .last .1 .0 ≡ low-first 8 (x .consumed))) (d .decode-packed .ensures .0) (c .answer .ensures, count) in
     simp (toZ-ofZ w64 (c .answer .result) (sfits-of (c .answer .ok)))
     (tells _ _ _ _ _ _ _ _ _ (λ e. t .before .before .if4 .left (sym (number d) ∙ e)) (d .decode-packed .ensures .1) told ∙ gives d)
 

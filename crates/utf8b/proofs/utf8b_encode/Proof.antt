@@ -10,7 +10,8 @@ use borrow.Author.Tests.{eq-eqb, ne-eqb, le-leb, lt-leb}
 use Rattle.encode.specs.declared.Encoded.{Encoded}
 use Rattle.encode.specs.Writing.{Writing, encoding, encodedOf}
 use Rattle.encode.proofs.Theorems.{refused-nothing, within-room}
-use Rattle.packed.specs.Bytes.{low-first, codesOf}
+use Rattle.numbers.specs.Number.{low-first}
+use Rattle.packed.specs.Bytes.{codesOf}
 use Rattle.utf8b.specs.Entry.{answerOf, given, encode-entry}
 use Rattle.utf8b.proofs.Answers.{refuses, tells, encode-given}
 use Rattle.utf8b.proofs.utf8b_encode.Statement.{statement}
@@ -56,8 +57,8 @@ unfolding encodedOf
 returns-6 c =
     let t = c .before .before .before in
     let d = t .before .before .before .before .before .before in
-    let count = t .put-count .ensures ∙ ap (λ (k : ℕ). low-first k (d .encode-packed .result .consumed)) (d .before .before .before .before .before .if1 .left) in
-    let told = subst (λ (x : Encoded). (c .answer .result ≡ answerOf (x .number) (x .produced)) × (t .put-count .last .1 .0 ≡ low-first 8 (x .consumed))) (d .encode-packed .ensures .0) (c .answer .ensures, count) in
+    let count = t .put .ensures ∙ ap (λ (k : ℕ). low-first k (d .encode-packed .result .consumed)) (d .before .before .before .before .before .if1 .left) in
+    let told = subst (λ (x : Encoded). (c .answer .result ≡ answerOf (x .number) (x .produced)) × (t .put .last .1 .0 ≡ low-first 8 (x .consumed))) (d .encode-packed .ensures .0) (c .answer .ensures, count) in
     simp (toZ-ofZ w64 (c .answer .result) (sfits-of (c .answer .ok)))
     (tells _ _ _ _ _ _ _ _ _ (λ e. t .before .before .if5 .left (sym (number d) ∙ e)) (d .encode-packed .ensures .1) told ∙ gives d)
 

@@ -1,0 +1,22 @@
+-- Numbers as bytes, low byte first ("The C side"). Assumes nothing.
+use mathlib.Core.List.{List, [], _∷_, _++_}
+use Prim.Native.Nat.{ℕ, zero, suc, _+_, _*_, _/_, _%_, _<_}
+use lib.ListN.{length, drop, getD}
+
+-- a number in so many bytes
+abbrev pub low-first : ℕ → ℕ → List ℕ
+low-first zero x = []
+low-first (suc k) x = x % 256 ∷ low-first k (x / 256)
+
+-- the number that bytes stand for
+abbrev pub value : List ℕ → ℕ
+value [] = 0
+value (b ∷ w) = b + 256 * value w
+
+-- a buffer with these bytes at its front
+abbrev pub over : List ℕ → List ℕ → List ℕ
+over w d = w ++ drop (length w) d
+
+-- at each place stands a byte
+abbrev pub Octets : List ℕ → Type 0
+Octets w = (i : ℕ) → getD w i 0 < 256
