@@ -343,8 +343,11 @@ def back_on(run):
 
 
 def back_take(run, fields):
-    answer, _, made, _, held, run.record = fields
-    run.made += bytes.fromhex(made) if made != '-' else b''
+    answer, _, made, count, held, run.record = fields
+    made = bytes.fromhex(made)
+    run.made += made[:int(count)]
+    if any(made[int(count):]):
+        answer = 'an unused place is not zero'
     if answer not in ('bytes', 'held'):
         run.bad = run.at - 2 * int(held) if answer == 'bad' else answer
     run.at += 2

@@ -169,20 +169,21 @@ static void step(struct run *r)
 /* One unit back. */
 static void step_back(struct run *r)
 {
-    char bytes[16], hex[33];
-    size_t result = c16rtomb(bytes, r->units[r->at], &r->glibc);
+    uint8_t bytes[16] = {0};
+    char hex[9];
+    size_t result = c16rtomb((char *)bytes, r->units[r->at], &r->glibc);
 
     sprintf(r->command, "back %s %X", r->record, (unsigned)r->units[r->at]);
     r->at++;
     r->over = r->at == r->len;
     if (result == (size_t)-1) {
-        sprintf(r->expected, "bad 3 - 0 %zu ", r->held);
+        sprintf(r->expected, "bad 3 00000000 0 %zu ", r->held);
         r->over = 1;
     } else if (result == 0) {
-        strcpy(r->expected, "held 0 - 0 - ");
+        strcpy(r->expected, "held 0 00000000 0 - ");
         r->held = 1;
     } else {
-        write_hex(hex, (const uint8_t *)bytes, result);
+        write_hex(hex, bytes, 4);
         sprintf(r->expected, "bytes 0 %s %zu - ", hex, result);
         r->held = 0;
     }

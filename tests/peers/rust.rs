@@ -452,9 +452,9 @@ fn compare_units(tally: &mut Tally, probe: &str, random: &mut Random) {
 /// decode_utf16 takes a high unit at the end for an error; here it is held.
 fn back_by_peer(units: &[u16]) -> String {
     match (char::decode_utf16(units.iter().copied()).next().unwrap(), units) {
-        (Ok(c), _) => format!("bytes 0 {} {} - {START}", hex(c.to_string().as_bytes()), c.len_utf8()),
-        (Err(_), &[high @ 0xD800..=0xDBFF]) => format!("held 0 - 0 - {}", record(4, &high.to_le_bytes())),
-        (Err(_), _) => format!("bad 3 - 0 {} {START}", units.len() - 1),
+        (Ok(c), _) => format!("bytes 0 {:0<8} {} - {START}", hex(c.to_string().as_bytes()), c.len_utf8()),
+        (Err(_), &[high @ 0xD800..=0xDBFF]) => format!("held 0 00000000 0 - {}", record(4, &high.to_le_bytes())),
+        (Err(_), _) => format!("bad 3 00000000 0 {} {START}", units.len() - 1),
     }
 }
 

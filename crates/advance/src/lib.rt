@@ -9,23 +9,31 @@ ghost use lib.Seq.{paste};
 ghost use Rattle.classify.specs.Lead.{rowsOf};
 ghost use Rattle.advance.specs.Advance.{Advances, Holding, taken};
 
-// What a reading step answers. Refused: the state is not one of this step's. Continuation: a pending unit. Incomplete: all input is
-// consumed. Bad: how many bytes had been held. Null: code 0, one byte consumed. Unit: the first unit of a code, and the bytes consumed.
+// What a reading step answers.
 pub enum Answer {
+    // The state is invalid or not this step's. Nothing is consumed.
     Refused,
+    // A unit that was pending. No input is consumed.
     Continuation(u32),
+    // The input ends before a sequence is complete. All of it is consumed.
     Incomplete,
+    // How many bytes had been held. Nothing is consumed.
     Bad(u8),
+    // Code 0. One byte is consumed.
     Null,
+    // The first unit of a code, and the bytes consumed.
     Unit(u32, usize),
 }
 
-// Before the width counts. Done: the answer of every width. Trail, Low: the pending unit that comes out, if the step is of its width. Code:
-// a code above 0, and the bytes consumed.
+// What a step gives before its width counts.
 pub enum Reading {
+    // The answer of every width.
     Done(Answer),
+    // A pending 8-bit unit: it comes out if the step is of its width, and else the state is refused.
     Trail(u8),
+    // The same of a pending 16-bit unit.
     Low(u16),
+    // A code above 0, and the bytes consumed.
     Code(u32, usize),
 }
 
@@ -112,6 +120,7 @@ fn read(form: Form, s: Record, input: &[u8]) -> Advanced
     }
 }
 
+// What the steps of all widths make of a state and the input, up to the point where the width counts.
 pub fn advance(form: Form, s: Record, input: &[u8]) -> Advanced
     ensures { λ r. ⌜ Advances (rowsOf form) s (now (input .entry)) r ⌝ }
 {

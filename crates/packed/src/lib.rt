@@ -75,6 +75,7 @@ fn decode_stretch(src: &[u8], codes: &mut [u8], flags: u32) -> Decoded
     r
 }
 
+// The reader, stretch after stretch, until it stops for anything but room or the whole room is full.
 pub fn decode_packed(src: &[u8], codes: &mut [u8], flags: u32) -> Decoded
     ensures answer { λ r. ⌜ r ≡ decodedOf (decoding flags (length (now (codes .entry)) / 4) (now (src .entry))) ⌝ }
     ensures output { λ _. ⌜ now (codes .exit) ≡ over (laid (decoding flags (length (now (codes .entry)) / 4) (now (src .entry)) .codes)) (now (codes .entry)) ⌝ }
@@ -114,6 +115,7 @@ fn encode_stretch(codes: &[u8], dst: &mut [u8], flags: u32) -> Encoded
     encode::encode(&some[..n], dst, flags)
 }
 
+// The writer, stretch after stretch, until it stops within one or no codes are left.
 pub fn encode_packed(codes: &[u8], dst: &mut [u8], flags: u32) -> Encoded
     ensures answer { λ r. ⌜ r ≡ encodedOf (encoding flags (length (now (dst .entry))) (codesOf (now (codes .entry)))) ⌝ }
     ensures output { λ _. ⌜ now (dst .exit) ≡ over (encoding flags (length (now (dst .entry))) (codesOf (now (codes .entry))) .written) (now (dst .entry)) ⌝ }

@@ -6,10 +6,9 @@ use libc::STDOUT_FILENO;
 use state::Record;
 use steps::State;
 use steps::Stepped;
-use steps::SteppedBack;
 use units::Back;
 ghost use mathlib.Core.Path.{_≡_};
-ghost use Prim.Native.Nat.{_<_, _≤_};
+ghost use Prim.Native.Nat.{_≤_};
 ghost use lib.ListN.{length};
 ghost use Rattle.io.specs.Counts.{Counts};
 
@@ -17,6 +16,9 @@ ghost use Rattle.io.specs.Counts.{Counts};
 const LONGEST: usize = 65536;
 
 const OVER: usize = 65537;
+
+// A place or a count that is not there.
+const MISS: usize = 0xFFFFFFFFFFFFFFFF;
 
 // The contract gives the length alone: a caller then never computes the zeros.
 fn code_buffer() -> [u32; 65536]
@@ -39,9 +41,6 @@ fn within_codes(n: usize, s: &[u32]) -> usize
 }
 
 // ---- the words of a line, and what they say
-
-// Where a word begins that is not there.
-const MISS: usize = 0xFFFFFFFFFFFFFFFF;
 
 // Where the word of number k begins, from 0, where the byte b stands between two words.
 fn start_of(s: &[u8], b: u8, k: usize) -> usize {
@@ -88,7 +87,7 @@ fn digit(b: u8) -> u8
 }
 
 struct Number {
-    ok: bool,
+    good: bool,
     value: u32,
 }
 
@@ -111,81 +110,54 @@ fn number_of(s: &[u8], base: u8, digits: usize, largest: u32) -> Number
     for i in 0..s.len() {
         let more = grown(value, digit(s[i]), base);
         if (largest as u64) < more {
-            return Number { ok: false, value };
+            return Number { good: false, value };
         }
         value = more as u32;
     }
     Number {
-        ok: 0 < s.len() && s.len() <= digits,
+        good: 0 < s.len() && s.len() <= digits,
         value,
     }
 }
 
-fn is_none(s: &[u8]) -> bool {
-    check::same(s, b"-")
-}
-
-fn all_digits(s: &[u8]) -> bool {
-    for i in 0..s.len() {
-        if 15 < digit(s[i]) {
-            return false;
-        }
+// How many bytes a word of hexadecimal pairs has, which stand in the buffer then; MISS if it is no such word, or they do not fit.
+fn bytes_of(s: &[u8], out: &mut [u8]) -> usize {
+    if check::same(s, b"-") {
+        return 0;
     }
-    true
-}
-
-fn is_bytes(s: &[u8]) -> bool {
-    if s.len() == 0 {
-        return false;
+    let n = s.len() / 2;
+    if n == 0 || s.len() % 2 == 1 {
+        return MISS;
     }
-    if s.len() % 2 == 1 {
-        return is_none(s);
+    if out.len() < n {
+        return MISS;
     }
-    all_digits(s)
-}
-
-fn is_codes(s: &[u8]) -> bool {
-    let mut from: usize = 0;
-    while from <= s.len() {
-        let end = bytes::scan::find(s, from, s.len(), b',');
-        if !number_of(&s[from..end], 16, 8, 0xFFFFFFFF).ok {
-            return is_none(s);
-        }
-        from = end + 1;
-    }
-    true
-}
-
-// The byte of number k, two digits each; beyond the last it is 0.
-fn byte_at(s: &[u8], k: usize) -> u8 {
-    if k < s.len() / 2 {
-        return digit(s[k * 2]) % 16 * 16 + digit(s[k * 2 + 1]) % 16;
-    }
-    0
-}
-
-// How many bytes a word has, as many as fit. They stand in the buffer then.
-fn bytes_of(s: &[u8], out: &mut [u8]) -> usize
-    ensures { λ r. ⌜ Counts r (now (out .exit)) ⌝ }
-{
-    let n = within_bytes(s.len() / 2, out);
     for i in 0..n {
-        out[i] = byte_at(s, i);
+        let high = digit(s[i * 2]);
+        let low = digit(s[i * 2 + 1]);
+        if 15 < high {
+            return MISS;
+        }
+        if 15 < low {
+            return MISS;
+        }
+        out[i] = high * 16 + low;
     }
     n
 }
 
-// The same of codes.
-fn codes_of(s: &[u8], out: &mut [u32]) -> usize
-    ensures { λ r. ⌜ Counts r (now (out .exit)) ⌝ }
-{
+// The same of codes with commas between them.
+fn codes_of(s: &[u8], out: &mut [u32]) -> usize {
+    if check::same(s, b"-") {
+        return 0;
+    }
     let mut from: usize = 0;
     let mut n: usize = 0;
     while n < out.len() {
         let end = bytes::scan::find(s, from, s.len(), b',');
         let code = number_of(&s[from..end], 16, 8, 0xFFFFFFFF);
-        if !code.ok {
-            return n;
+        if !code.good {
+            return MISS;
         }
         out[n] = code.value;
         n += 1;
@@ -197,25 +169,132 @@ fn codes_of(s: &[u8], out: &mut [u32]) -> usize
     n
 }
 
-fn state_of(s: &[u8]) -> State {
+// Why a line is refused. A word that is not of its kind has the number of the kind.
+const EMPTY: usize = 0;
+
+const UNKNOWN: usize = 1;
+
+const FEW: usize = 2;
+
+const MANY: usize = 3;
+
+const FLAGS: usize = 4;
+
+const ROOM: usize = 5;
+
+const BYTES: usize = 6;
+
+const CODES: usize = 7;
+
+const RECORD: usize = 8;
+
+const UNIT: usize = 9;
+
+const PACKETS: usize = 10;
+
+const LONG: usize = 11;
+
+const FINE: usize = 12;
+
+// What the words after the command say. Bytes and codes stand in the buffers, and this has their count.
+struct Words {
+    why: usize,
+    number: u32,
+    room: usize,
+    count: usize,
+    state: State,
+}
+
+fn unless(good: bool, why: usize) -> usize {
+    if good { FINE } else { why }
+}
+
+// Flags or a unit.
+fn with_number(w: Words, n: Number, kind: usize) -> Words {
+    let mut q = w;
+    q.number = n.value;
+    q.why = unless(n.good, kind);
+    q
+}
+
+fn with_room(w: Words, n: Number) -> Words {
+    let mut q = w;
+    q.room = n.value as usize;
+    q.why = unless(n.good, ROOM);
+    q
+}
+
+fn with_count(w: Words, count: usize, most: usize, kind: usize) -> Words {
+    let mut q = w;
+    q.count = count;
+    q.why = unless(count <= most, kind);
+    q
+}
+
+fn with_state(w: Words, s: &[u8]) -> Words {
+    let mut places = [0u8; 16];
     let mut bytes = [0u8; 14];
-    let from = within_bytes(4, s);
-    bytes_of(&s[from..], &mut bytes);
-    State {
-        raw: Record {
-            kind: byte_at(s, 0),
-            count: byte_at(s, 1),
-            bytes,
+    let n = bytes_of(s, &mut places);
+    bytes::copy(&places[2..], &mut bytes);
+    Words {
+        why: unless(s.len() == 32 && n == 16, RECORD),
+        number: w.number,
+        room: w.room,
+        count: w.count,
+        state: State {
+            raw: Record {
+                kind: places[0],
+                count: places[1],
+                bytes,
+            },
         },
     }
+}
+
+// One word more, of a kind.
+fn with_word(w: Words, kind: usize, s: &[u8], bytes: &mut [u8], codes: &mut [u32]) -> Words {
+    match kind {
+        FLAGS => with_number(w, number_of(s, 10, LONGEST, 0xFFFFFFFF), FLAGS),
+        ROOM => with_room(w, number_of(s, 10, LONGEST, 65536)),
+        BYTES => with_count(w, bytes_of(s, bytes), LONGEST, BYTES),
+        CODES => with_count(w, codes_of(s, codes), LONGEST, CODES),
+        UNIT => with_number(w, number_of(s, 16, 4, 0xFFFF), UNIT),
+        PACKETS => with_count(w, bytes_of(s, bytes), 32, PACKETS),
+        _ => with_state(w, s),
+    }
+}
+
+// The words after the first, whose kinds are given as digits, up to one that is refused.
+fn words_of(kinds: &[u8], s: &[u8], bytes: &mut [u8], codes: &mut [u32]) -> Words {
+    let mut w = Words {
+        why: FINE,
+        number: 0,
+        room: 0,
+        count: 0,
+        state: State {
+            raw: state::start(),
+        },
+    };
+    let most: usize = 3;
+    for k in 0..most {
+        if kinds.len() <= k || w.why < FINE {
+            return w;
+        }
+        w = with_word(
+            w,
+            digit(kinds[k]) as usize,
+            word(s, b' ', k + 1),
+            bytes,
+            codes,
+        );
+    }
+    w
 }
 
 // ---- answers, which wait in a buffer that goes from function to function by value
 
 // In place of the number of bytes that wait: a write failed, so that no more is written.
 const STOPPED: usize = 0xFFFFFFFFFFFFFFFF;
-
-const ROOM: usize = 256;
 
 struct Output {
     bytes: [u8; 256],
@@ -230,10 +309,10 @@ fn empty() -> Output {
 }
 
 fn written(bytes: &[u8], waiting: usize) -> usize {
-    let n = within_bytes(waiting, bytes);
     if waiting == STOPPED {
         return STOPPED;
     }
+    let n = within_bytes(waiting, bytes);
     if io::write_all(STDOUT_FILENO, &bytes[..n]) {
         return 0;
     }
@@ -250,15 +329,29 @@ fn flush(o: Output) -> Output {
 
 fn put(o: Output, b: u8) -> Output {
     let mut q = o;
-    if q.waiting == ROOM {
+    if q.waiting == 256 {
         q = flush(q);
     }
     let n = q.waiting;
-    if n < ROOM {
+    if n < 256 {
         q.bytes[n] = b;
         q.waiting = n + 1;
     }
     q
+}
+
+fn put_all(o: Output, s: &[u8]) -> Output {
+    let mut q = o;
+    for i in 0..s.len() {
+        q = put(q, s[i]);
+    }
+    q
+}
+
+fn put_decimal(o: Output, value: u64) -> Output {
+    let mut digits = [0u8; 20];
+    let k = io::decimal(value, &mut digits);
+    put_all(o, &digits[..k])
 }
 
 fn upper(b: u8) -> u8 {
@@ -268,10 +361,10 @@ fn upper(b: u8) -> u8 {
     }
 }
 
-fn put_digits(o: Output, digits: &[u8]) -> Output {
+fn put_upper(o: Output, s: &[u8]) -> Output {
     let mut q = o;
-    for i in 0..digits.len() {
-        q = put(q, upper(digits[i]));
+    for i in 0..s.len() {
+        q = put(q, upper(s[i]));
     }
     q
 }
@@ -279,65 +372,41 @@ fn put_digits(o: Output, digits: &[u8]) -> Output {
 fn put_hex(o: Output, value: u64, width: usize) -> Output {
     let mut digits = [0u8; 16];
     let k = io::hex(value, width, &mut digits);
-    put_digits(o, &digits[..k])
-}
-
-fn put_decimal(o: Output, value: u64) -> Output {
-    let mut digits = [0u8; 20];
-    let k = io::decimal(value, &mut digits);
-    put_digits(o, &digits[..k])
-}
-
-fn put_piece(o: Output, b: u8, unit: u64, count: u64) -> Output {
-    match b {
-        b'@' => put_hex(o, unit, 1),
-        b'#' => put_decimal(o, count),
-        _ => put(o, b),
-    }
-}
-
-// The words, with the unit in hexadecimal where they have `@` and the count in decimal where they have `#`.
-fn put_text(o: Output, words: &[u8], unit: u64, count: u64) -> Output {
-    let mut q = o;
-    for i in 0..words.len() {
-        q = put_piece(q, words[i], unit, count);
-    }
-    q
+    put_upper(o, &digits[..k])
 }
 
 fn put_byte(o: Output, b: u8) -> Output {
     put_hex(o, b as u64, 2)
 }
 
-// The first so many bytes, or `-`.
-fn put_bytes(o: Output, count: usize, bytes: &[u8]) -> Output {
-    if count == 0 {
+// All of the bytes, or `-`.
+fn put_bytes(o: Output, s: &[u8]) -> Output {
+    if s.len() == 0 {
         return put(o, b'-');
     }
-    let k = within_bytes(count, bytes);
     let mut q = o;
-    for i in 0..k {
-        q = put_byte(q, bytes[i]);
+    for i in 0..s.len() {
+        q = put_byte(q, s[i]);
     }
     q
 }
 
-fn put_code(o: Output, i: usize, code: u32) -> Output {
-    if i == 0 {
+// A code, after a comma if it is not the first.
+fn put_code(o: Output, first: bool, code: u32) -> Output {
+    if first {
         return put_hex(o, code as u64, 1);
     }
     put_hex(put(o, b','), code as u64, 1)
 }
 
-// The first so many codes, or `-`.
-fn put_codes(o: Output, count: usize, codes: &[u32]) -> Output {
-    if count == 0 {
+// All of the codes, or `-`.
+fn put_codes(o: Output, s: &[u32]) -> Output {
+    if s.len() == 0 {
         return put(o, b'-');
     }
-    let k = within_codes(count, codes);
     let mut q = o;
-    for i in 0..k {
-        q = put_code(q, i, codes[i]);
+    for i in 0..s.len() {
+        q = put_code(q, i == 0, s[i]);
     }
     q
 }
@@ -345,229 +414,417 @@ fn put_codes(o: Output, count: usize, codes: &[u32]) -> Output {
 fn put_state(o: Output, state: State) -> Output {
     let raw = state.raw;
     let bytes = raw.bytes;
-    put_bytes(put_byte(put_byte(o, raw.kind), raw.count), 14, &bytes)
+    put_bytes(put_byte(put_byte(o, raw.kind), raw.count), &bytes)
 }
 
-// ---- commands
+// How an answer is told: the number of its form, and what stands in it.
+struct Told {
+    form: usize,
+    unit: u32,
+    count: usize,
+    held: u8,
+}
 
-// Why a line is refused. A word that is not of its kind has the number of the kind: 4 FLAGS, 5 ROOM, 6 BYTES, 7 CODES, 8 RECORD, 9 UNIT.
-const EMPTY: usize = 0;
+fn put_piece(o: Output, b: u8, t: Told) -> Output {
+    match b {
+        b'@' => put_hex(o, t.unit as u64, 1),
+        b'%' => put_hex(o, t.unit as u64, 8),
+        b'#' => put_decimal(o, t.count as u64),
+        b'~' => put_decimal(o, t.held as u64),
+        _ => put(o, b),
+    }
+}
 
-const UNKNOWN: usize = 1;
+fn put_pieces(o: Output, words: &[u8], t: Told) -> Output {
+    let mut q = o;
+    for i in 0..words.len() {
+        q = put_piece(q, words[i], t);
+    }
+    q
+}
 
-const FEW: usize = 2;
+// The form's words, with the unit in hexadecimal at `@`, as four bytes at `%`, the count at `#` and what was held at `~`.
+fn put_told(o: Output, t: Told) -> Output {
+    let forms =
+        b"@ # \n@ \nrefused 5 - 0 - \ncontinuation 0 @ 0 - \nincomplete 2 - # - \nbad 3 - 0 ~ \nnull 0 @ # - \nunit 0 @ # - \nrefused 5 % # - \nheld 0 % # - \nbytes 0 % # - \nbad 3 % # ~ ";
+    put_pieces(o, word(forms, b'\n', t.form), t)
+}
 
-const MANY: usize = 3;
+fn tell(form: usize, unit: u32, count: usize, held: u8) -> Told {
+    Told {
+        form,
+        unit,
+        count,
+        held,
+    }
+}
 
-const LONG: usize = 10;
+fn told_of(answer: Answer, given: usize) -> Told {
+    match answer {
+        Answer::Refused => tell(2, 0, 0, 0),
+        Answer::Continuation(u) => tell(3, u, 0, 0),
+        Answer::Incomplete => tell(4, 0, given, 0),
+        Answer::Bad(h) => tell(5, 0, 0, h),
+        Answer::Null => tell(6, 0, 1, 0),
+        Answer::Unit(u, k) => tell(7, u, k, 0),
+    }
+}
 
-const FINE: usize = 11;
+fn told_back(answer: Back, bytes: u32, count: usize) -> Told {
+    match answer {
+        Back::Refused => tell(8, bytes, count, 0),
+        Back::Held => tell(9, bytes, count, 0),
+        Back::Bytes => tell(10, bytes, count, 0),
+        Back::Bad(h) => tell(11, bytes, count, h),
+    }
+}
+
+// ---- commands: the reader, its companion and the writer, with a buffer that is larger than the room and filled before the call
+
+const FILLED: u32 = 0xEEEEEEEE;
+
+fn fill_codes(codes: &mut [u32]) {
+    for i in 0..codes.len() {
+        codes[i] = FILLED;
+    }
+}
+
+fn fill_bytes(bytes: &mut [u8]) {
+    for i in 0..bytes.len() {
+        bytes[i] = 0xEE;
+    }
+}
+
+// Whether a place after the first n was changed.
+fn codes_beyond(n: usize, codes: &[u32]) -> bool {
+    for i in 0..codes.len() {
+        if n <= i && codes[i] != FILLED {
+            return true;
+        }
+    }
+    false
+}
+
+fn bytes_beyond(n: usize, bytes: &[u8]) -> bool {
+    for i in 0..bytes.len() {
+        if n <= i && bytes[i] != 0xEE {
+            return true;
+        }
+    }
+    false
+}
+
+fn put_beyond(o: Output, beyond: bool) -> Output {
+    if beyond {
+        return put_all(o, b" beyond");
+    }
+    o
+}
+
+// The first n codes of a buffer that was filled.
+fn put_given(o: Output, n: usize, codes: &[u32]) -> Output {
+    let k = within_codes(n, codes);
+    put_beyond(put_codes(o, &codes[..k]), codes_beyond(n, codes))
+}
+
+fn put_given_bytes(o: Output, n: usize, bytes: &[u8]) -> Output {
+    let k = within_bytes(n, bytes);
+    put_beyond(put_bytes(o, &bytes[..k]), bytes_beyond(n, bytes))
+}
+
+fn read(o: Output, w: Words, bytes: &[u8], codes: &mut [u32]) -> Output {
+    fill_codes(codes);
+    let n = within_codes(w.room, codes);
+    let r = decode::decode(bytes, &mut codes[..n], w.number);
+    let q = put_told(o, tell(0, r.number as u32, r.consumed, 0));
+    put_given(q, r.produced, codes)
+}
+
+// The companion, with the room that the words give.
+fn read_rest<'a>(
+    bytes: &'a [u8],
+    codes: &mut [u32],
+    w: Words,
+    number: &mut u8,
+    produced: &mut usize,
+) -> &'a [u8] {
+    fill_codes(codes);
+    let n = within_codes(w.room, codes);
+    rest::decode_rest(bytes, &mut codes[..n], w.number, number, produced)
+}
+
+fn rest(o: Output, w: Words, bytes: &[u8], codes: &mut [u32]) -> Output {
+    let mut number: u8 = 0xEE;
+    let mut produced: usize = MISS;
+    let left = read_rest(bytes, codes, w, &mut number, &mut produced);
+    let q = put_told(o, tell(1, number as u32, 0, 0));
+    put_bytes(put(put_given(q, produced, codes), b' '), left)
+}
+
+fn write(o: Output, w: Words, codes: &[u32], bytes: &mut [u8]) -> Output {
+    fill_bytes(bytes);
+    let n = within_bytes(w.room, bytes);
+    let r = encode::encode(codes, &mut bytes[..n], w.number);
+    let q = put_told(o, tell(0, r.number as u32, r.consumed, 0));
+    put_given_bytes(q, r.produced, bytes)
+}
+
+// ---- the steps
+
+fn stepped(width: usize, state: State, input: &[u8]) -> Stepped {
+    match width {
+        0 => state.step8(input),
+        1 => state.step16(input),
+        _ => state.step32(input),
+    }
+}
+
+fn step(o: Output, width: usize, state: State, input: &[u8]) -> Output {
+    let r = stepped(width, state, input);
+    let answer = r.answer;
+    let next = r.next;
+    put_state(put_told(o, told_of(answer, input.len())), next)
+}
+
+// Four bytes as one number, which shows them in their order.
+fn four(a: u8, b: u8, c: u8, d: u8) -> u32 {
+    d as u32 + 256 * (c as u32 + 256 * (b as u32 + 256 * a as u32))
+}
+
+fn back(o: Output, w: Words) -> Output {
+    let state = w.state;
+    let r = state.step_back((w.number % 0x10000) as u16);
+    let answer = r.answer;
+    let b = r.bytes;
+    let shown = four(b[0], b[1], b[2], b[3]);
+    let next = r.next;
+    put_state(put_told(o, told_back(answer, shown, r.count)), next)
+}
+
+fn reset(o: Output, state: State) -> Output {
+    let r = state.reset();
+    let next = r.next;
+    put_state(put_told(o, tell(1, r.number as u32, 0, 0)), next)
+}
+
+fn start(o: Output, state: State) -> Output {
+    put_all(o, word(b"no yes", b' ', state.is_starting() as usize))
+}
+
+// ---- whole runs, in every cut into three packets and byte by byte
+
+// A run on its way: its units as text, the state, the bytes consumed, and where it was bad, or MISS.
+struct Run {
+    out: Output,
+    state: State,
+    fed: usize,
+    place: usize,
+}
+
+fn begun() -> Run {
+    Run {
+        out: empty(),
+        state: State {
+            raw: state::start(),
+        },
+        fed: 0,
+        place: MISS,
+    }
+}
+
+// A unit, if one came out.
+fn put_unit(o: Output, t: Told) -> Output {
+    let form = t.form;
+    match form {
+        3 | 6 | 7 => put_code(o, o.waiting == 0, t.unit),
+        _ => o,
+    }
+}
+
+// One call. Nothing is called once the run was bad.
+fn turn(width: usize, input: &[u8], r: Run) -> Run {
+    let state = r.state;
+    let out = r.out;
+    if r.place != MISS {
+        return r;
+    }
+    let s = stepped(width, state, input);
+    let answer = s.answer;
+    let next = s.next;
+    let t = told_of(answer, input.len());
+    if t.form == 5 {
+        return Run {
+            out,
+            state: next,
+            fed: r.fed,
+            place: std::num::wrapping_sub_usize(r.fed, t.held as usize),
+        };
+    }
+    Run {
+        out: put_unit(out, t),
+        state: next,
+        fed: std::num::wrapping_add_usize(r.fed, t.count),
+        place: MISS,
+    }
+}
+
+// The calls for one packet, which ends with the bytes given: one at least, and at most two a byte of 32.
+fn packet(width: usize, bytes: &[u8], r: Run) -> Run {
+    let mut q = r;
+    let most: usize = 64;
+    for _k in 0..most {
+        let at = within_bytes(q.fed, bytes);
+        q = turn(width, &bytes[at..], q);
+        if q.fed == bytes.len() {
+            return q;
+        }
+    }
+    q
+}
+
+// After the last byte three units can be pending, and then nothing comes.
+fn ended(width: usize, bytes: &[u8], r: Run) -> Output {
+    let q = packet(
+        width,
+        bytes,
+        packet(width, bytes, packet(width, bytes, packet(width, bytes, r))),
+    );
+    let out = q.out;
+    let state = q.state;
+    let mut o = out;
+    if o.waiting == 0 {
+        o = put(o, b'-');
+    }
+    if q.place == MISS {
+        return put_state(put_all(o, b" end "), state);
+    }
+    put_decimal(put_all(o, b" bad "), q.place as u64)
+}
+
+fn bytewise(width: usize, bytes: &[u8]) -> Output {
+    let mut r = begun();
+    for k in 0..bytes.len() {
+        let end = within_bytes(k + 1, bytes);
+        r = packet(width, &bytes[..end], r);
+    }
+    ended(width, bytes, r)
+}
+
+// Whether the packets that end at i, at j and at the end give the same text.
+fn agrees(width: usize, bytes: &[u8], i: usize, j: usize, text: &[u8]) -> bool {
+    let a = within_bytes(i, bytes);
+    let b = within_bytes(j, bytes);
+    let r = packet(width, &bytes[..b], packet(width, &bytes[..a], begun()));
+    let o = ended(width, bytes, packet(width, bytes, r));
+    let same = o.bytes;
+    check::same(&same, text)
+}
+
+fn all_agree(width: usize, bytes: &[u8], text: &[u8]) -> bool {
+    let cuts: usize = 33 * 33;
+    for k in 0..cuts {
+        let i = k / 33;
+        let j = k % 33;
+        if i <= j && j <= bytes.len() {
+            if !agrees(width, bytes, i, j, text) {
+                return false;
+            }
+        }
+    }
+    true
+}
+
+fn run_all(o: Output, width: usize, bytes: &[u8]) -> Output {
+    let r = bytewise(width, bytes);
+    let text = r.bytes;
+    let k = within_bytes(r.waiting, &text);
+    let q = put_all(o, &text[..k]);
+    if all_agree(width, bytes, &text) {
+        return q;
+    }
+    put_all(q, b" cuts differ")
+}
+
+// ---- lines
 
 // The reasons stand in the order of their numbers.
 fn put_error(o: Output, why: usize) -> Output {
     let reasons =
-        b"the line is empty\nunknown command\ntoo few words\ntoo many words\nFLAGS is not a decimal number up to 4294967295\nROOM is not a decimal number up to 65536\nBYTES is not pairs of hexadecimal digits, or -\nCODES is not hexadecimal numbers of 1 to 8 digits with commas between them, or -\nRECORD is not 32 hexadecimal digits\nUNIT is not a hexadecimal number of 1 to 4 digits\nthe line is longer than 65536 bytes";
-    put_text(
-        put_text(o, b"error: ", 0, 0),
-        word(reasons, b'\n', why),
-        0,
-        0,
-    )
+        b"the line is empty\nunknown command\ntoo few words\ntoo many words\nFLAGS is not a decimal number up to 4294967295\nROOM is not a decimal number up to 65536\nBYTES is not pairs of hexadecimal digits, or -\nCODES is not hexadecimal numbers of 1 to 8 digits with commas between them, or -\nRECORD is not 32 hexadecimal digits\nUNIT is not a hexadecimal number of 1 to 4 digits\nPACKETS is not up to 32 pairs of hexadecimal digits, or -\nthe line is longer than 65536 bytes";
+    put_all(put_all(o, b"error: "), word(reasons, b'\n', why))
 }
 
-// Whether a word is of a kind, by the number of the reason that refuses it.
-fn fits(kind: u8, s: &[u8]) -> bool {
-    match kind {
-        4 => number_of(s, 10, LONGEST, 0xFFFFFFFF).ok,
-        5 => number_of(s, 10, LONGEST, 65536).ok,
-        6 => is_bytes(s),
-        7 => is_codes(s),
-        8 => s.len() == 32 && is_bytes(s),
-        _ => number_of(s, 16, 4, 0xFFFF).ok,
-    }
-}
-
-// Why the words after the first are refused, whose kinds are given as digits.
-fn word_refusal(kinds: &[u8], s: &[u8]) -> usize {
-    if start_of(s, b' ', kinds.len()) == MISS {
-        return FEW;
-    }
-    if start_of(s, b' ', kinds.len() + 1) != MISS {
-        return MANY;
-    }
-    for k in 0..kinds.len() {
-        let kind = digit(kinds[k]);
-        if !fits(kind, word(s, b' ', k + 1)) {
-            return kind as usize;
-        }
-    }
-    FINE
-}
-
-// The commands stand in the order of their numbers, and so do the kinds of words that each takes, below.
-fn command_of(s: &[u8]) -> usize {
-    number_in(
-        b"read write step8 step16 step32 back reset start",
-        word(s, b' ', 0),
-    )
-}
-
-// Why a line of so many bytes, of which this part was kept, is refused.
-fn refusal(s: &[u8], len: usize) -> usize {
+// Why a line of so many bytes, of which this part was kept, is refused before its words are read.
+fn refusal(s: &[u8], len: usize, command: usize, kinds: &[u8]) -> usize {
     if s.len() < len {
         return LONG;
     }
     if len == 0 {
         return EMPTY;
     }
-    let command = command_of(s);
-    if 7 < command {
+    if 11 < command {
         return UNKNOWN;
     }
-    let kinds = b"456 457 86 86 86 89 8 8";
-    word_refusal(word(kinds, b' ', command), s)
-}
-
-fn flags_of(s: &[u8]) -> u32 {
-    number_of(word(s, b' ', 1), 10, LONGEST, 0xFFFFFFFF).value
-}
-
-fn room_of(s: &[u8]) -> usize {
-    number_of(word(s, b' ', 2), 10, LONGEST, 65536).value as usize
-}
-
-fn read(o: Output, s: &[u8], bytes: &mut [u8], codes: &mut [u32]) -> Output {
-    let m = bytes_of(word(s, b' ', 3), bytes);
-    let most = within_codes(room_of(s), codes);
-    let r = decode::decode(&bytes[..m], &mut codes[..most], flags_of(s));
-    let q = put_text(o, b"@ # ", r.number as u64, r.consumed as u64);
-    put_codes(q, r.produced, codes)
-}
-
-fn write(o: Output, s: &[u8], bytes: &mut [u8], codes: &mut [u32]) -> Output {
-    let m = codes_of(word(s, b' ', 3), codes);
-    let most = within_bytes(room_of(s), bytes);
-    let r = encode::encode(&codes[..m], &mut bytes[..most], flags_of(s));
-    let q = put_text(o, b"@ # ", r.number as u64, r.consumed as u64);
-    put_bytes(q, r.produced, bytes)
-}
-
-// How an answer is told: the number of its form, and what stands in it.
-struct Told {
-    form: usize,
-    unit: u64,
-    count: u64,
-}
-
-fn tell(form: usize, unit: u64, count: u64) -> Told {
-    Told { form, unit, count }
-}
-
-fn told_of(answer: Answer, given: usize) -> Told {
-    match answer {
-        Answer::Refused => tell(0, 0, 0),
-        Answer::Continuation(u) => tell(1, u as u64, 0),
-        Answer::Incomplete => tell(2, 0, given as u64),
-        Answer::Bad(h) => tell(3, 0, h as u64),
-        Answer::Null => tell(4, 0, 0),
-        Answer::Unit(u, k) => tell(5, u as u64, k as u64),
+    if start_of(s, b' ', kinds.len()) == MISS {
+        return FEW;
     }
-}
-
-fn told_back(answer: Back) -> Told {
-    match answer {
-        Back::Refused => tell(0, 0, 0),
-        Back::Held => tell(1, 0, 0),
-        Back::Bytes => tell(2, 0, 0),
-        Back::Bad(h) => tell(3, h as u64, 0),
+    if start_of(s, b' ', kinds.len() + 1) != MISS {
+        return MANY;
     }
+    FINE
 }
 
-fn stepped(command: usize, state: State, input: &[u8]) -> Stepped {
+// The places that are filled: the room, and some beyond it.
+fn filled(room: usize) -> usize {
+    std::num::wrapping_add_usize(room, 16)
+}
+
+fn obey(o: Output, command: usize, w: Words, bytes: &mut [u8], codes: &mut [u32]) -> Output {
+    let m = within_bytes(w.count, bytes);
+    let n = within_codes(filled(w.room), codes);
+    let state = w.state;
     match command {
-        2 => state.step8(input),
-        3 => state.step16(input),
-        _ => state.step32(input),
+        0 => read(o, w, &bytes[..m], &mut codes[..n]),
+        1 => rest(o, w, &bytes[..m], &mut codes[..n]),
+        3..=5 => step(o, command - 3, state, &bytes[..m]),
+        6..=8 => run_all(o, command - 6, &bytes[..m]),
+        9 => back(o, w),
+        10 => reset(o, state),
+        11 => start(o, state),
+        _ => {
+            let k = within_codes(w.count, codes);
+            let l = within_bytes(filled(w.room), bytes);
+            write(o, w, &codes[..k], &mut bytes[..l])
+        }
     }
 }
 
-fn step(o: Output, command: usize, s: &[u8], bytes: &mut [u8]) -> Output {
-    let m = bytes_of(word(s, b' ', 2), bytes);
-    let r = stepped(command, state_of(word(s, b' ', 1)), &bytes[..m]);
-    let answer = r.answer;
-    let next = r.next;
-    let t = told_of(answer, m);
-    let forms =
-        b"refused 5 - 0 - \ncontinuation 0 @ 0 - \nincomplete 2 - # - \nbad 3 - 0 # \nnull 0 0 1 - \nunit 0 @ # - ";
-    put_state(
-        put_text(o, word(forms, b'\n', t.form), t.unit, t.count),
-        next,
-    )
-}
-
-fn put_back(o: Output, r: SteppedBack) -> Output {
-    let answer = r.answer;
-    let bytes = r.bytes;
-    let next = r.next;
-    let t = told_back(answer);
-    let names = b"refused 5 \nheld 0 \nbytes 0 \nbad 3 ";
-    let q = put_bytes(
-        put_text(o, word(names, b'\n', t.form), 0, 0),
-        r.count,
-        &bytes,
-    );
-    let forms = b" # - \n # - \n # - \n # @ ";
-    put_state(
-        put_text(q, word(forms, b'\n', t.form), t.unit, r.count as u64),
-        next,
-    )
-}
-
-fn back(o: Output, s: &[u8]) -> Output {
-    let unit = number_of(word(s, b' ', 2), 16, 4, 0xFFFF);
-    put_back(o, state_of(word(s, b' ', 1)).step_back(unit.value as u16))
-}
-
-fn reset(o: Output, s: &[u8]) -> Output {
-    let r = state_of(word(s, b' ', 1)).reset();
-    let next = r.next;
-    put_state(put_text(o, b"@ ", r.number as u64, 0), next)
-}
-
-fn start(o: Output, s: &[u8]) -> Output {
-    let yes = state_of(word(s, b' ', 1)).is_starting();
-    put_text(o, word(b"no yes", b' ', yes as usize), 0, 0)
-}
-
-// The number of a line's command, or 8 and why it is refused.
-struct Meaning {
-    command: usize,
-    why: usize,
-}
-
-fn meaning_of(s: &[u8], len: usize) -> Meaning {
-    let why = refusal(s, len);
-    if why < FINE {
-        return Meaning { command: 8, why };
-    }
-    Meaning {
-        command: command_of(s),
-        why,
-    }
-}
-
+// The commands stand in the order of their numbers, and so do the kinds of words that each takes.
 fn call(o: Output, s: &[u8], len: usize, bytes: &mut [u8], codes: &mut [u32]) -> Output {
-    let m = meaning_of(s, len);
-    let command = m.command;
-    match command {
-        0 => read(o, s, bytes, codes),
-        1 => write(o, s, bytes, codes),
-        2..=4 => step(o, command, s, bytes),
-        5 => back(o, s),
-        6 => reset(o, s),
-        7 => start(o, s),
-        _ => put_error(o, m.why),
+    let command = number_in(
+        b"read rest write step8 step16 step32 run8 run16 run32 back reset start",
+        word(s, b' ', 0),
+    );
+    let kinds = word(b"456 456 457 86 86 86 A A A 89 8 8", b' ', command);
+    let why = refusal(s, len, command, kinds);
+    if why < FINE {
+        return put_error(o, why);
     }
+    let w = words_of(kinds, s, bytes, codes);
+    if w.why < FINE {
+        return put_error(o, w.why);
+    }
+    obey(o, command, w, bytes, codes)
+}
+
+// A remark is its own answer.
+fn reply(o: Output, s: &[u8], len: usize, bytes: &mut [u8], codes: &mut [u32]) -> Output {
+    if 0 < s.len() {
+        if s[0] == b'#' {
+            return put_all(o, s);
+        }
+    }
+    call(o, s, len, bytes, codes)
 }
 
 // What a byte of input brings to the answers: at the end of a line its answer.
@@ -583,7 +840,7 @@ fn answer(
         return o;
     }
     let k = within_bytes(len, line);
-    put(call(o, &line[..k], len, bytes, codes), b'\n')
+    put(reply(o, &line[..k], len, bytes, codes), b'\n')
 }
 
 // What it brings to the line, whose length then this answers.
@@ -598,15 +855,7 @@ fn keep(len: usize, b: u8, line: &mut [u8]) -> usize {
     OVER
 }
 
-// A line goes on only if answers can be written.
-fn held_after(o: Output, len: usize) -> usize {
-    if o.waiting == STOPPED {
-        return STOPPED;
-    }
-    len
-}
-
-// Answers the lines that end in the chunk. This answers the length of the line that goes on.
+// Answers the lines that end in the chunk. This answers the length of the line that goes on, or STOPPED.
 fn feed(chunk: &[u8], len: usize, line: &mut [u8], bytes: &mut [u8], codes: &mut [u32]) -> usize {
     let mut held = len;
     let mut o = empty();
@@ -614,7 +863,10 @@ fn feed(chunk: &[u8], len: usize, line: &mut [u8], bytes: &mut [u8], codes: &mut
         o = answer(o, chunk[i], line, held, bytes, codes);
         held = keep(held, chunk[i], line);
     }
-    held_after(flush(o), held)
+    if flush(o).waiting == STOPPED {
+        return STOPPED;
+    }
+    held
 }
 
 // Reads once, and answers how many of the chunk's bytes came. At the end of the input a line that has no newline gets one.
@@ -632,42 +884,27 @@ fn next_chunk(len: usize, chunk: &mut [u8]) -> usize
     io::count(got, chunk)
 }
 
-// The turns that are left after a chunk of so many bytes.
-fn turns_left(turns: u64, m: usize, len: usize) -> u64
-    requires { ⌜ 0 < turns ⌝ }
-    ensures { λ r. ⌜ r < turns ⌝ }
-{
-    if m == 0 || len == STOPPED {
-        return 0;
-    }
-    turns - 1
-}
-
-// A proved loop has to end, and nothing says that the input does: the turns are counted down from a number that no run uses up.
+// A proved loop has to end, and nothing says that the input does: the turns are counted up to a number that no run reaches.
 fn answer_all(chunk: &mut [u8], line: &mut [u8], bytes: &mut [u8], codes: &mut [u32]) {
     let mut len: usize = 0;
-    let mut turns = u64::MAX;
-    while turns > 0 {
+    for _turn in 0..u64::MAX {
         let m = next_chunk(len, chunk);
         len = feed(&chunk[..m], len, line, bytes, codes);
-        turns = turns_left(turns, m, len);
+        if m == 0 || len == STOPPED {
+            return;
+        }
     }
 }
 
 fn help() {
     io::write_all(
         STDOUT_FILENO,
-        b"usage: probe\n       probe --help\n\nTries one call a line. A command and what it answers:\n\n    read FLAGS ROOM BYTES               number consumed codes\n    write FLAGS ROOM CODES              number consumed bytes\n    step8|step16|step32 RECORD BYTES    answer number unit consumed held record\n    back RECORD UNIT                    answer number bytes count held record\n    reset RECORD                        number record\n    start RECORD                        yes or no\n\nFLAGS is 0 to 4294967295 and ROOM 0 to 65536, both decimal. BYTES is two\nhexadecimal digits for each byte, CODES hexadecimal numbers of 1 to 8 digits with\ncommas between them, and - is none. RECORD is 32 hexadecimal digits: the kind, the\nnumber of data bytes, and 14 data bytes. UNIT is a hexadecimal number of 1 to 4\ndigits. One space stands between two words. A line has at most 65536 bytes.\n\nIn answers - is an empty list or a value that the answer does not have. A line that\ncannot be read is answered by error: and why.\n\n    read 1 5 3430E280B2                 0 5 34,30,2032\n\nThe exit status is always 0. Where an argument is refused, or the input cannot be\nread, standard error says why.\n",
+        b"usage: probe\n       probe --help\n\nTries one call a line. A command and what it answers:\n\n    read FLAGS ROOM BYTES               number consumed codes\n    rest FLAGS ROOM BYTES               number codes bytes: the reader's companion\n    write FLAGS ROOM CODES              number consumed bytes\n    step8|step16|step32 RECORD BYTES    answer number unit consumed held record\n    run8|run16|run32 PACKETS            units, then end RECORD or bad PLACE\n    back RECORD UNIT                    answer number bytes count held record\n    reset RECORD                        number record\n    start RECORD                        yes or no\n\nFLAGS is 0 to 4294967295 and ROOM 0 to 65536, both decimal. BYTES is two\nhexadecimal digits for each byte, CODES hexadecimal numbers of 1 to 8 digits with\ncommas between them, and - is none. RECORD is 32 hexadecimal digits: the kind, the\nnumber of data bytes, and 14 data bytes. UNIT is a hexadecimal number of 1 to 4\ndigits. PACKETS is up to 32 bytes, which are fed in every cut into three packets\nand byte by byte. One space stands between two words. A line has at most 65536\nbytes.\n\nIn answers - is an empty list or a value that the answer does not have; back shows\nall four places of its bytes. An answer ends in beyond where the call changed its\nbuffer beyond what it gave, and in cuts differ where not every cut gives the same.\nA line that cannot be read is answered by error: and why, and a line that begins\nwith # by itself.\n\n    read 1 5 3430E280B2                 0 5 34,30,2032\n\nThe exit status is always 0. Where an argument is refused, or the input cannot be\nread, standard error says why.\n",
     );
 }
 
-fn is_help() -> bool {
-    let mut argument = [0u8; 8];
-    let n = os::arg(1, &mut argument);
-    check::same(&argument[..n], b"--help")
-}
-
 fn main() {
+    let mut argument = [0u8; 8];
     if os::arg_count() < 2 {
         let mut chunk = io::large_buffer();
         let mut line = io::large_buffer();
@@ -676,7 +913,8 @@ fn main() {
         answer_all(&mut chunk, &mut line, &mut bytes, &mut codes);
         return;
     }
-    if os::arg_count() == 2 && is_help() {
+    let n = os::arg(1, &mut argument);
+    if os::arg_count() == 2 && check::same(&argument[..n], b"--help") {
         help();
         return;
     }

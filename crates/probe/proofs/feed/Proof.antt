@@ -17,4 +17,4 @@ feed-spec =
     tie.close
     (tie.spec Inv-loop μ-loop (λ c κs. tt) (λ c. (omega arith, refl, refl, refl)) (λ c. omega arith) (λ c κs. tt) (λ c. omega arith)
     (λ c κs. tt) (λ c. omega arith) (λ c. omega arith) (λ c. (omega arith, omega arith, omega arith, omega arith)) (λ c κs. tt)
-    (λ c κs. tt) (λ c. omega arith) (λ c. omega arith) (λ c. omega arith) (λ c. tt))
+    (λ c. omega arith) (λ c. omega arith) (λ c. omega arith) (λ c. tt) (λ c. omega arith) (λ c. omega arith) (λ c. omega arith) (λ c. tt))

@@ -6,13 +6,13 @@ use Rattle.probe.proofs.put_bytes.Statement.{statement}
 use Rattle.probe.proofs.put_bytes.Tie as tie
 
 abbrev Inv-loop : tie.InvT-loop
-Inv-loop count bytes k q₀ i₀ q i = (i ≤ k) × (k ≤ length bytes)
+Inv-loop s q₀ i₀ i-end q i = i ≤ length s
 
 abbrev μ-loop : tie.MeasureT-loop
-μ-loop count bytes k q₀ i₀ q i = k - i
+μ-loop s q₀ i₀ i-end q i = length s - i
 
 pub put-bytes-spec : {M : Type 1} → statement M
 put-bytes-spec =
     tie.close
-    (tie.spec Inv-loop μ-loop (λ c κs. tt) (λ c. tt) (λ c κs. tt) (λ c. (omega arith, omega (arith, c .within-bytes .ensures .0)))
-    (λ c. omega arith) (λ c κs. tt) (λ c. omega arith) (λ c. omega arith) (λ c. (omega arith, omega arith)) (λ c. tt))
+    (tie.spec Inv-loop μ-loop (λ c κs. tt) (λ c. tt) (λ c. omega arith) (λ c. omega arith) (λ c κs. tt) (λ c. omega arith)
+    (λ c. omega arith) (λ c. omega arith) (λ c. tt))

@@ -1,0 +1,18 @@
+-- Assumes nothing.
+use Prim.Native.Nat.{_-_, _≤_}
+use native.Mathlib.Omega.{arith}
+use lib.ListN.{length}
+use Rattle.probe.proofs.bytes_beyond.Statement.{statement}
+use Rattle.probe.proofs.bytes_beyond.Tie as tie
+
+abbrev Inv-loop : tie.InvT-loop
+Inv-loop n bytes i₀ i-end i = i ≤ length bytes
+
+abbrev μ-loop : tie.MeasureT-loop
+μ-loop n bytes i₀ i-end i = length bytes - i
+
+pub bytes-beyond-spec : {M : Type 1} → statement M
+bytes-beyond-spec =
+    tie.close
+    (tie.spec Inv-loop μ-loop (λ c. omega arith) (λ c. omega arith) (λ c. tt) (λ c. omega arith) (λ c. omega arith) (λ c. omega arith)
+    (λ c. tt))
