@@ -205,76 +205,86 @@ struct Words {
     state: State,
 }
 
-fn unless(good: bool, why: usize) -> usize {
-    if good { FINE } else { why }
-}
-
-// Flags or a unit.
-fn with_number(w: Words, n: Number, kind: usize) -> Words {
-    let mut q = w;
-    q.number = n.value;
-    q.why = unless(n.good, kind);
-    q
-}
-
-fn with_room(w: Words, n: Number) -> Words {
-    let mut q = w;
-    q.room = n.value as usize;
-    q.why = unless(n.good, ROOM);
-    q
-}
-
-fn with_count(w: Words, count: usize, most: usize, kind: usize) -> Words {
-    let mut q = w;
-    q.count = count;
-    q.why = unless(count <= most, kind);
-    q
-}
-
-fn with_state(w: Words, s: &[u8]) -> Words {
-    let mut places = [0u8; 16];
-    let mut bytes = [0u8; 14];
-    let n = bytes_of(s, &mut places);
-    bytes::copy(&places[2..], &mut bytes);
+fn no_words(why: usize) -> Words {
     Words {
-        why: unless(s.len() == 32 && n == 16, RECORD),
-        number: w.number,
-        room: w.room,
-        count: w.count,
-        state: State {
-            raw: Record {
-                kind: places[0],
-                count: places[1],
-                bytes,
-            },
-        },
-    }
-}
-
-// One word more, of a kind.
-fn with_word(w: Words, kind: usize, s: &[u8], bytes: &mut [u8], codes: &mut [u32]) -> Words {
-    match kind {
-        FLAGS => with_number(w, number_of(s, 10, LONGEST, 0xFFFFFFFF), FLAGS),
-        ROOM => with_room(w, number_of(s, 10, LONGEST, 65536)),
-        BYTES => with_count(w, bytes_of(s, bytes), LONGEST, BYTES),
-        CODES => with_count(w, codes_of(s, codes), LONGEST, CODES),
-        UNIT => with_number(w, number_of(s, 16, 4, 0xFFFF), UNIT),
-        PACKETS => with_count(w, bytes_of(s, bytes), 32, PACKETS),
-        _ => with_state(w, s),
-    }
-}
-
-// The words after the first, whose kinds are given as digits, up to one that is refused.
-fn words_of(kinds: &[u8], s: &[u8], bytes: &mut [u8], codes: &mut [u32]) -> Words {
-    let mut w = Words {
-        why: FINE,
+        why,
         number: 0,
         room: 0,
         count: 0,
         state: State {
             raw: state::start(),
         },
-    };
+    }
+}
+
+fn unless(good: bool, why: usize) -> usize {
+    if good { FINE } else { why }
+}
+
+// Flags, a room or a unit.
+fn number_by(kind: usize, s: &[u8]) -> Number {
+    match kind {
+        FLAGS => number_of(s, 10, LONGEST, 0xFFFFFFFF),
+        ROOM => number_of(s, 10, LONGEST, 65536),
+        _ => number_of(s, 16, 4, 0xFFFF),
+    }
+}
+
+fn with_number(w: Words, kind: usize, s: &[u8]) -> Words {
+    let n = number_by(kind, s);
+    let mut q = w;
+    q.why = unless(n.good, kind);
+    if kind == ROOM {
+        q.room = n.value as usize;
+    } else {
+        q.number = n.value;
+    }
+    q
+}
+
+fn with_count(w: Words, kind: usize, count: usize, most: usize) -> Words {
+    let mut q = w;
+    q.why = unless(count <= most, kind);
+    q.count = count;
+    q
+}
+
+fn state_of(b: [u8; 16]) -> State {
+    let mut bytes = [0u8; 14];
+    bytes::copy(&b[2..], &mut bytes);
+    State {
+        raw: Record {
+            kind: b[0],
+            count: b[1],
+            bytes,
+        },
+    }
+}
+
+fn with_state(w: Words, s: &[u8]) -> Words {
+    let mut bytes = [0u8; 16];
+    let n = bytes_of(s, &mut bytes);
+    let state = state_of(bytes);
+    let mut q = w;
+    q.why = unless(n == 16, RECORD);
+    q.state = state;
+    q
+}
+
+// One word more, of a kind.
+fn with_word(w: Words, kind: usize, s: &[u8], bytes: &mut [u8], codes: &mut [u32]) -> Words {
+    match kind {
+        BYTES => with_count(w, kind, bytes_of(s, bytes), LONGEST),
+        PACKETS => with_count(w, kind, bytes_of(s, bytes), 32),
+        CODES => with_count(w, kind, codes_of(s, codes), LONGEST),
+        RECORD => with_state(w, s),
+        _ => with_number(w, kind, s),
+    }
+}
+
+// The words after the first, whose kinds are given as digits, up to one that is refused.
+fn words_of(kinds: &[u8], s: &[u8], bytes: &mut [u8], codes: &mut [u32]) -> Words {
+    let mut w = no_words(FINE);
     let most: usize = 3;
     for k in 0..most {
         if kinds.len() <= k || w.why < FINE {
@@ -479,35 +489,43 @@ fn told_back(answer: Back, bytes: u32, count: usize) -> Told {
     }
 }
 
-// ---- commands: the reader, its companion and the writer, with a buffer that is larger than the room and filled before the call
+// ---- commands: the reader, its companion and the writer, in a buffer of which the room and some places beyond it are filled first
 
 const FILLED: u32 = 0xEEEEEEEE;
 
-fn fill_codes(codes: &mut [u32]) {
-    for i in 0..codes.len() {
+fn filled(room: usize) -> usize {
+    std::num::wrapping_add_usize(room, 16)
+}
+
+fn fill_codes(codes: &mut [u32], room: usize) {
+    let n = within_codes(filled(room), codes);
+    for i in 0..n {
         codes[i] = FILLED;
     }
 }
 
-fn fill_bytes(bytes: &mut [u8]) {
-    for i in 0..bytes.len() {
+fn fill_bytes(bytes: &mut [u8], room: usize) {
+    let n = within_bytes(filled(room), bytes);
+    for i in 0..n {
         bytes[i] = 0xEE;
     }
 }
 
-// Whether a place after the first n was changed.
-fn codes_beyond(n: usize, codes: &[u32]) -> bool {
-    for i in 0..codes.len() {
-        if n <= i && codes[i] != FILLED {
+// Whether a filled place after the first k was changed.
+fn codes_beyond(codes: &[u32], k: usize, room: usize) -> bool {
+    let n = within_codes(filled(room), codes);
+    for i in k..n {
+        if codes[i] != FILLED {
             return true;
         }
     }
     false
 }
 
-fn bytes_beyond(n: usize, bytes: &[u8]) -> bool {
-    for i in 0..bytes.len() {
-        if n <= i && bytes[i] != 0xEE {
+fn bytes_beyond(bytes: &[u8], k: usize, room: usize) -> bool {
+    let n = within_bytes(filled(room), bytes);
+    for i in k..n {
+        if bytes[i] != 0xEE {
             return true;
         }
     }
@@ -521,26 +539,21 @@ fn put_beyond(o: Output, beyond: bool) -> Output {
     o
 }
 
-// The first n codes of a buffer that was filled.
-fn put_given(o: Output, n: usize, codes: &[u32]) -> Output {
-    let k = within_codes(n, codes);
-    put_beyond(put_codes(o, &codes[..k]), codes_beyond(n, codes))
-}
-
-fn put_given_bytes(o: Output, n: usize, bytes: &[u8]) -> Output {
-    let k = within_bytes(n, bytes);
-    put_beyond(put_bytes(o, &bytes[..k]), bytes_beyond(n, bytes))
+// What the reader gave.
+fn put_read(o: Output, produced: usize, codes: &[u32], room: usize) -> Output {
+    let k = within_codes(produced, codes);
+    put_beyond(put_codes(o, &codes[..k]), codes_beyond(codes, k, room))
 }
 
 fn read(o: Output, w: Words, bytes: &[u8], codes: &mut [u32]) -> Output {
-    fill_codes(codes);
+    fill_codes(codes, w.room);
+    let m = within_bytes(w.count, bytes);
     let n = within_codes(w.room, codes);
-    let r = decode::decode(bytes, &mut codes[..n], w.number);
+    let r = decode::decode(&bytes[..m], &mut codes[..n], w.number);
     let q = put_told(o, tell(0, r.number as u32, r.consumed, 0));
-    put_given(q, r.produced, codes)
+    put_read(q, r.produced, codes, w.room)
 }
 
-// The companion, with the room that the words give.
 fn read_rest<'a>(
     bytes: &'a [u8],
     codes: &mut [u32],
@@ -548,9 +561,10 @@ fn read_rest<'a>(
     number: &mut u8,
     produced: &mut usize,
 ) -> &'a [u8] {
-    fill_codes(codes);
+    fill_codes(codes, w.room);
+    let m = within_bytes(w.count, bytes);
     let n = within_codes(w.room, codes);
-    rest::decode_rest(bytes, &mut codes[..n], w.number, number, produced)
+    rest::decode_rest(&bytes[..m], &mut codes[..n], w.number, number, produced)
 }
 
 fn rest(o: Output, w: Words, bytes: &[u8], codes: &mut [u32]) -> Output {
@@ -558,15 +572,22 @@ fn rest(o: Output, w: Words, bytes: &[u8], codes: &mut [u32]) -> Output {
     let mut produced: usize = MISS;
     let left = read_rest(bytes, codes, w, &mut number, &mut produced);
     let q = put_told(o, tell(1, number as u32, 0, 0));
-    put_bytes(put(put_given(q, produced, codes), b' '), left)
+    put_bytes(put(put_read(q, produced, codes, w.room), b' '), left)
+}
+
+// What the writer gave.
+fn put_written(o: Output, produced: usize, bytes: &[u8], room: usize) -> Output {
+    let k = within_bytes(produced, bytes);
+    put_beyond(put_bytes(o, &bytes[..k]), bytes_beyond(bytes, k, room))
 }
 
 fn write(o: Output, w: Words, codes: &[u32], bytes: &mut [u8]) -> Output {
-    fill_bytes(bytes);
+    fill_bytes(bytes, w.room);
+    let m = within_codes(w.count, codes);
     let n = within_bytes(w.room, bytes);
-    let r = encode::encode(codes, &mut bytes[..n], w.number);
+    let r = encode::encode(&codes[..m], &mut bytes[..n], w.number);
     let q = put_told(o, tell(0, r.number as u32, r.consumed, 0));
-    put_given_bytes(q, r.produced, bytes)
+    put_written(q, r.produced, bytes, w.room)
 }
 
 // ---- the steps
@@ -579,11 +600,13 @@ fn stepped(width: usize, state: State, input: &[u8]) -> Stepped {
     }
 }
 
-fn step(o: Output, width: usize, state: State, input: &[u8]) -> Output {
-    let r = stepped(width, state, input);
+fn step(o: Output, width: usize, w: Words, bytes: &[u8]) -> Output {
+    let state = w.state;
+    let m = within_bytes(w.count, bytes);
+    let r = stepped(width, state, &bytes[..m]);
     let answer = r.answer;
     let next = r.next;
-    put_state(put_told(o, told_of(answer, input.len())), next)
+    put_state(put_told(o, told_of(answer, m)), next)
 }
 
 // Four bytes as one number, which shows them in their order.
@@ -601,13 +624,15 @@ fn back(o: Output, w: Words) -> Output {
     put_state(put_told(o, told_back(answer, shown, r.count)), next)
 }
 
-fn reset(o: Output, state: State) -> Output {
+fn reset(o: Output, w: Words) -> Output {
+    let state = w.state;
     let r = state.reset();
     let next = r.next;
     put_state(put_told(o, tell(1, r.number as u32, 0, 0)), next)
 }
 
-fn start(o: Output, state: State) -> Output {
+fn start(o: Output, w: Words) -> Output {
+    let state = w.state;
     put_all(o, word(b"no yes", b' ', state.is_starting() as usize))
 }
 
@@ -683,22 +708,30 @@ fn packet(width: usize, bytes: &[u8], r: Run) -> Run {
 }
 
 // After the last byte three units can be pending, and then nothing comes.
-fn ended(width: usize, bytes: &[u8], r: Run) -> Output {
-    let q = packet(
-        width,
-        bytes,
-        packet(width, bytes, packet(width, bytes, packet(width, bytes, r))),
-    );
-    let out = q.out;
-    let state = q.state;
-    let mut o = out;
+fn drained(width: usize, bytes: &[u8], r: Run) -> Run {
+    let mut q = r;
+    let most: usize = 4;
+    for _k in 0..most {
+        q = packet(width, bytes, q);
+    }
+    q
+}
+
+fn or_none(o: Output) -> Output {
     if o.waiting == 0 {
-        o = put(o, b'-');
+        return put(o, b'-');
     }
-    if q.place == MISS {
-        return put_state(put_all(o, b" end "), state);
+    o
+}
+
+// The text of a run that has ended.
+fn text_of(r: Run) -> Output {
+    let out = r.out;
+    let state = r.state;
+    if r.place == MISS {
+        return put_state(put_all(or_none(out), b" end "), state);
     }
-    put_decimal(put_all(o, b" bad "), q.place as u64)
+    put_decimal(put_all(or_none(out), b" bad "), r.place as u64)
 }
 
 fn bytewise(width: usize, bytes: &[u8]) -> Output {
@@ -707,7 +740,7 @@ fn bytewise(width: usize, bytes: &[u8]) -> Output {
         let end = within_bytes(k + 1, bytes);
         r = packet(width, &bytes[..end], r);
     }
-    ended(width, bytes, r)
+    text_of(drained(width, bytes, r))
 }
 
 // Whether the packets that end at i, at j and at the end give the same text.
@@ -715,9 +748,9 @@ fn agrees(width: usize, bytes: &[u8], i: usize, j: usize, text: &[u8]) -> bool {
     let a = within_bytes(i, bytes);
     let b = within_bytes(j, bytes);
     let r = packet(width, &bytes[..b], packet(width, &bytes[..a], begun()));
-    let o = ended(width, bytes, packet(width, bytes, r));
-    let same = o.bytes;
-    check::same(&same, text)
+    let o = text_of(drained(width, bytes, packet(width, bytes, r)));
+    let other = o.bytes;
+    check::same(&other, text)
 }
 
 fn all_agree(width: usize, bytes: &[u8], text: &[u8]) -> bool {
@@ -734,7 +767,7 @@ fn all_agree(width: usize, bytes: &[u8], text: &[u8]) -> bool {
     true
 }
 
-fn run_all(o: Output, width: usize, bytes: &[u8]) -> Output {
+fn put_run(o: Output, width: usize, bytes: &[u8]) -> Output {
     let r = bytewise(width, bytes);
     let text = r.bytes;
     let k = within_bytes(r.waiting, &text);
@@ -743,6 +776,11 @@ fn run_all(o: Output, width: usize, bytes: &[u8]) -> Output {
         return q;
     }
     put_all(q, b" cuts differ")
+}
+
+fn run_all(o: Output, width: usize, w: Words, bytes: &[u8]) -> Output {
+    let m = within_bytes(w.count, bytes);
+    put_run(o, width, &bytes[..m])
 }
 
 // ---- lines
@@ -754,67 +792,67 @@ fn put_error(o: Output, why: usize) -> Output {
     put_all(put_all(o, b"error: "), word(reasons, b'\n', why))
 }
 
-// Why a line of so many bytes, of which this part was kept, is refused before its words are read.
-fn refusal(s: &[u8], len: usize, command: usize, kinds: &[u8]) -> usize {
+// The commands stand in the order of their numbers.
+fn command_of(s: &[u8]) -> usize {
+    number_in(
+        b"read rest write step8 step16 step32 run8 run16 run32 back reset start",
+        word(s, b' ', 0),
+    )
+}
+
+// Why a line of so many bytes, of which this part was kept, is refused before its words are looked at.
+fn refusal(s: &[u8], len: usize) -> usize {
     if s.len() < len {
         return LONG;
     }
     if len == 0 {
         return EMPTY;
     }
-    if 11 < command {
+    if 11 < command_of(s) {
         return UNKNOWN;
-    }
-    if start_of(s, b' ', kinds.len()) == MISS {
-        return FEW;
-    }
-    if start_of(s, b' ', kinds.len() + 1) != MISS {
-        return MANY;
     }
     FINE
 }
 
-// The places that are filled: the room, and some beyond it.
-fn filled(room: usize) -> usize {
-    std::num::wrapping_add_usize(room, 16)
+fn checked_words(kinds: &[u8], s: &[u8], bytes: &mut [u8], codes: &mut [u32]) -> Words {
+    if start_of(s, b' ', kinds.len()) == MISS {
+        return no_words(FEW);
+    }
+    if start_of(s, b' ', kinds.len() + 1) != MISS {
+        return no_words(MANY);
+    }
+    words_of(kinds, s, bytes, codes)
+}
+
+// The kinds of words stand in the order of the commands.
+fn line_words(s: &[u8], len: usize, bytes: &mut [u8], codes: &mut [u32]) -> Words {
+    let why = refusal(s, len);
+    if why < FINE {
+        return no_words(why);
+    }
+    let kinds = b"456 456 457 86 86 86 A A A 89 8 8";
+    checked_words(word(kinds, b' ', command_of(s)), s, bytes, codes)
 }
 
 fn obey(o: Output, command: usize, w: Words, bytes: &mut [u8], codes: &mut [u32]) -> Output {
-    let m = within_bytes(w.count, bytes);
-    let n = within_codes(filled(w.room), codes);
-    let state = w.state;
     match command {
-        0 => read(o, w, &bytes[..m], &mut codes[..n]),
-        1 => rest(o, w, &bytes[..m], &mut codes[..n]),
-        3..=5 => step(o, command - 3, state, &bytes[..m]),
-        6..=8 => run_all(o, command - 6, &bytes[..m]),
+        0 => read(o, w, bytes, codes),
+        1 => rest(o, w, bytes, codes),
+        2 => write(o, w, codes, bytes),
+        3..=5 => step(o, command - 3, w, bytes),
+        6..=8 => run_all(o, command - 6, w, bytes),
         9 => back(o, w),
-        10 => reset(o, state),
-        11 => start(o, state),
-        _ => {
-            let k = within_codes(w.count, codes);
-            let l = within_bytes(filled(w.room), bytes);
-            write(o, w, &codes[..k], &mut bytes[..l])
-        }
+        10 => reset(o, w),
+        _ => start(o, w),
     }
 }
 
-// The commands stand in the order of their numbers, and so do the kinds of words that each takes.
 fn call(o: Output, s: &[u8], len: usize, bytes: &mut [u8], codes: &mut [u32]) -> Output {
-    let command = number_in(
-        b"read rest write step8 step16 step32 run8 run16 run32 back reset start",
-        word(s, b' ', 0),
-    );
-    let kinds = word(b"456 456 457 86 86 86 A A A 89 8 8", b' ', command);
-    let why = refusal(s, len, command, kinds);
-    if why < FINE {
-        return put_error(o, why);
-    }
-    let w = words_of(kinds, s, bytes, codes);
+    let w = line_words(s, len, bytes, codes);
     if w.why < FINE {
         return put_error(o, w.why);
     }
-    obey(o, command, w, bytes, codes)
+    obey(o, command_of(s), w, bytes, codes)
 }
 
 // A remark is its own answer.
@@ -903,23 +941,35 @@ fn help() {
     );
 }
 
-fn main() {
+fn is_help() -> bool {
     let mut argument = [0u8; 8];
-    if os::arg_count() < 2 {
-        let mut chunk = io::large_buffer();
-        let mut line = io::large_buffer();
-        let mut bytes = io::large_buffer();
-        let mut codes = code_buffer();
-        answer_all(&mut chunk, &mut line, &mut bytes, &mut codes);
-        return;
-    }
     let n = os::arg(1, &mut argument);
-    if os::arg_count() == 2 && check::same(&argument[..n], b"--help") {
-        help();
-        return;
-    }
+    check::same(&argument[..n], b"--help")
+}
+
+fn work() {
+    let mut chunk = io::large_buffer();
+    let mut line = io::large_buffer();
+    let mut bytes = io::large_buffer();
+    let mut codes = code_buffer();
+    answer_all(&mut chunk, &mut line, &mut bytes, &mut codes);
+}
+
+fn misused() {
     io::write_all(
         STDERR_FILENO,
         b"probe: no argument is taken but --help\nusage: probe\n       probe --help\n",
     );
+}
+
+fn main() {
+    if os::arg_count() < 2 {
+        work();
+        return;
+    }
+    if os::arg_count() == 2 && is_help() {
+        help();
+        return;
+    }
+    misused();
 }

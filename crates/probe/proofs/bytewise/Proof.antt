@@ -15,4 +15,4 @@ pub bytewise-spec : {M : Type 1} → statement M
 bytewise-spec =
     tie.close
     (tie.spec Inv-loop μ-loop (λ c κs. tt) (λ c. omega arith) (λ c. omega arith) (λ c κs. tt) (λ c. omega arith) (λ c κs. tt)
-    (λ c. omega arith) (λ c. omega arith) (λ c. omega arith) (λ c κs. tt) (λ c. tt))
+    (λ c. omega arith) (λ c. omega arith) (λ c. omega arith) (λ c κs. tt) (λ c κs. tt) (λ c. tt))

@@ -7,13 +7,14 @@ use Rattle.probe.proofs.fill_codes.Statement.{statement}
 use Rattle.probe.proofs.fill_codes.Tie as tie
 
 abbrev Inv-loop : tie.InvT-loop
-Inv-loop codes₀ i₀ i-end codes i = (i ≤ length codes) × (length codes ≡ length codes₀)
+Inv-loop codes₀ room n i₀ codes i = (i ≤ n) × (n ≤ length codes) × (length codes ≡ length codes₀)
 
 abbrev μ-loop : tie.MeasureT-loop
-μ-loop codes₀ i₀ i-end codes i = length codes₀ - i
+μ-loop codes₀ room n i₀ codes i = n - i
 
 pub fill-codes-spec : {M : Type 1} → statement M
 fill-codes-spec =
     tie.close
-    (tie.spec Inv-loop μ-loop (λ c. (omega arith, refl)) (λ c. omega arith) (λ c. omega arith) (λ c. omega arith) (λ c. omega arith)
-    (λ c. (simp length-set (omega arith), simp length-set (omega arith))) (λ c. omega arith) (λ c. tt))
+    (tie.spec Inv-loop μ-loop (λ c κs. tt) (λ c κs. tt) (λ c. (omega arith, omega (arith, c .within-codes .ensures .0), refl))
+    (λ c. omega arith) (λ c. omega arith) (λ c. omega arith) (λ c. omega arith)
+    (λ c. (omega arith, simp length-set (omega arith), simp length-set (omega arith))) (λ c. omega arith) (λ c. tt))
