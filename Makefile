@@ -15,14 +15,14 @@ placed install uninstall: export given_prefix := $(value PREFIX)
 placed install uninstall: export given_destdir := $(value DESTDIR)
 unexport PREFIX DESTDIR
 
-# Sets prefix and root, where the files go; or refuses before anything is done what pkg-config cannot pass on.
+# Sets prefix and root, where the files go; or refuses, before anything is done, what would not arrive whole.
 define place
 set -eu; \
 refuse() { printf 'make: %s; nothing was done\n' "$$1" >&2; exit 1; }; \
 case $$PWD$$given_prefix$$given_destdir in *[[:cntrl:]]*) refuse 'a path has a control character' ;; esac; \
 [ -n "$$given_prefix" ] || refuse 'PREFIX is empty'; \
 prefix=$$(realpath -ms -- "$$given_prefix"); \
-case $$prefix in *['$$()']*) refuse 'PREFIX has $$, ( or )' ;; esac; \
+case $$prefix in *['$$()']*) refuse 'PREFIX has $$, ( or ), which pkg-config cannot pass on' ;; esac; \
 root=$$given_destdir$$prefix
 endef
 
