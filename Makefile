@@ -1,38 +1,69 @@
 PREFIX ?= /usr/local
-prefix := $(abspath $(PREFIX))
-archive := target/staticlib/libutf8b.a
 c_flags := -std=c99 -O2 -Wall -Wextra -pedantic
 
-include_dir := $(DESTDIR)$(prefix)/include
-lib_dir := $(DESTDIR)$(prefix)/lib
-man_dir := $(DESTDIR)$(prefix)/share/man/man3
-installed := $(include_dir)/utf8b.h $(lib_dir)/libutf8b.a $(lib_dir)/pkgconfig/utf8b.pc $(patsubst man/%,$(man_dir)/%,$(wildcard man/*.3))
+# rt staticlib exports only what the crate it is given marks, so each crate with entries for C is named here.
+entries := utf8b
+archive := build/libutf8b.a
+# The directories are named too: a file that is taken away changes nothing else.
+sources := Makefile crates.txt $(shell find crates/*/src crates/*/specs crates/*/proofs)
 
-.PHONY: archive run test bench install uninstall
+pages := $(wildcard man/*.3)
+installed := include/utf8b.h lib/libutf8b.a lib/pkgconfig/utf8b.pc $(pages:man/%=share/man/man3/%)
 
-# rt knows what has changed since the last proof.
-archive:
-	rt staticlib utf8b
+# A path goes to the shell as it was given: make would take a '$' in it for a variable, and a space for an end.
+placed install uninstall: export given_prefix := $(value PREFIX)
+placed install uninstall: export given_destdir := $(value DESTDIR)
+unexport PREFIX DESTDIR
 
-run: archive
-	mkdir -p build
+# Sets prefix and root, where the files go; or refuses, before anything is done, what would not arrive whole.
+define place
+set -eu; \
+refuse() { printf 'make: %s; nothing was done\n' "$$1" >&2; exit 1; }; \
+case $$PWD$$given_prefix$$given_destdir in *[[:cntrl:]]*) refuse 'a path has a control character' ;; esac; \
+[ -n "$$given_prefix" ] || refuse 'PREFIX is empty'; \
+prefix=$$(realpath -ms -- "$$given_prefix"); \
+case $$prefix in *['$$()']*) refuse 'PREFIX has $$, ( or ), which pkg-config cannot pass on' ;; esac; \
+root=$$given_destdir$$prefix
+endef
+
+.PHONY: archive run test bench install uninstall placed help
+# placed comes before the archive; rt takes the cores by itself.
+.NOTPARALLEL:
+
+archive: $(archive) ## proves and builds build/libutf8b.a
+
+# A build that fails leaves no half of an archive.
+$(archive): $(sources)
+	for entry in $(entries); do rt staticlib $$entry || exit; done
+	rm -rf build/join && mkdir -p build/join
+	printf '%s\n' 'CREATE build/join/libutf8b.a' $(entries:%='ADDLIB target/staticlib/lib%.a') SAVE END | $(AR) -M
+	mv build/join/libutf8b.a $@
+
+run: $(archive) ## runs an example
 	$(CC) $(c_flags) -Iinclude examples/packets.c $(archive) -o build/packets
 	build/packets
 
-test:
+test: ## the gate
 	.ci/run
 
-# ROUNDS=n for another number of rounds.
-bench:
+bench: ## times the library beside others; ROUNDS=n for another number of rounds
 	@CC="$(CC)" bench/run $(ROUNDS)
 
-install: archive
-	mkdir -p $(include_dir) $(lib_dir)/pkgconfig $(man_dir)
-	install -m 644 include/utf8b.h $(include_dir)
-	install -m 644 $(archive) $(lib_dir)
-	install -m 644 man/*.3 $(man_dir)
-	sed 's|@PREFIX@|$(prefix)|' utf8b.pc.in >$(lib_dir)/pkgconfig/utf8b.pc
-	chmod 644 $(lib_dir)/pkgconfig/utf8b.pc
+placed:
+	@$(place)
 
-uninstall:
-	rm -f $(installed)
+install: placed $(archive) ## below PREFIX, with DESTDIR before it
+	@$(place); umask 022; pc=$$root/lib/pkgconfig/utf8b.pc; \
+	for file in $(installed); do mkdir -p -- "$$root/$${file%/*}"; done; \
+	install -m 644 -t "$$root/include" -- include/utf8b.h; \
+	install -m 644 -t "$$root/lib" -- $(archive); \
+	install -m 644 -t "$$root/share/man/man3" -- $(pages); \
+	{ printf 'prefix='; printf '%s\n' "$$prefix" | LC_ALL=C sed 's,[^A-Za-z0-9_./-],\\&,g'; cat utf8b.pc.in; } >"$$pc"; \
+	chmod 644 -- "$$pc"; \
+	printf 'installed below %s\n' "$$root"
+
+uninstall: ## takes the files of install away
+	@$(place); for file in $(installed); do rm -f -- "$$root/$$file"; done
+
+help: ## this list
+	@sed -n 's/^\([a-z]*\):.*## /make \1: /p' Makefile

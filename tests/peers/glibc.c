@@ -380,6 +380,8 @@ int main(int argc, char **argv)
         puts("skipped: no C.UTF-8 locale");
         return 0;
     }
+    if (!HAS_MBRTOC8)
+        puts("mbrtoc8 skipped: glibc before 2.36");
     probe = argv[1];
     snprintf(commands_file, sizeof commands_file, "%s/glibc.commands", argv[2]);
     add_all_short();
