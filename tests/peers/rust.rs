@@ -518,7 +518,7 @@ fn back_from(bytes: &[u8; 16], unit: u16) -> String {
     match state_of(bytes) {
         State::Start => back_by_peer(&[unit]),
         State::High(high) => back_by_peer(&[high, unit]),
-        _ => format!("refused 5 - 0 - {}", hex(bytes)),
+        _ => format!("refused 5 00000000 0 - {}", hex(bytes)),
     }
 }
 
