@@ -1,8 +1,9 @@
 -- Assumes nothing.
-use mathlib.Core.Path.{_≡_, refl}
+use mathlib.Core.Path.{_≡_, refl, sym}
 use Prim.Native.Nat.{_-_, _≤_}
 use native.Mathlib.Omega.{arith}
 use lib.ListN.{length, length-set}
+use lib.Seq.{length-take-le}
 use Rattle.probe.proofs.bytes_of.Statement.{statement}
 use Rattle.probe.proofs.bytes_of.Tie as tie
 
@@ -15,7 +16,7 @@ abbrev μ-loop : tie.MeasureT-loop
 pub bytes-of-spec : {M : Type 1} → statement M
 bytes-of-spec =
     tie.close
-    (tie.spec Inv-loop μ-loop (λ c. omega arith) (λ c κs. tt) (λ c. tt) (λ c. tt) (λ c. tt) (λ c. (omega arith, omega arith, refl))
-    (λ c. omega arith) (λ c. omega arith) (λ c κs. tt) (λ c. omega arith) (λ c. omega arith) (λ c. omega arith) (λ c κs. tt)
-    (λ c. omega arith) (λ c. tt) (λ c. omega arith) (λ c. tt) (λ c. omega arith) (λ c. omega arith) (λ c. omega arith) (λ c. omega arith)
-    (λ c. omega arith) (λ c. (omega arith, simp length-set (omega arith), simp length-set (omega arith))) (λ c. omega arith) (λ c. tt))
+    (tie.spec Inv-loop μ-loop (λ c κs. tt) (λ c. (omega arith, omega (arith, c .within-bytes .ensures .0), refl)) (λ c κs. tt)
+    (λ c. omega arith) (λ c. omega arith) (λ c. omega arith)
+    (λ c. (omega arith, simp length-set (omega arith), simp length-set (omega arith))) (λ c. omega arith)
+    (λ c. (omega arith, sym (length-take-le _ _ (omega arith)))))

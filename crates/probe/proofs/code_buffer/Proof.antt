@@ -6,7 +6,7 @@ use Rattle.probe.proofs.code_buffer.Statement.{statement}
 use Rattle.probe.proofs.code_buffer.Tie as tie
 
 returns : tie.Need-returns
-returns c = sym (length-replicate {0} {A = ℕ} 65536 0)
+returns c = sym (length-replicate {0} {A = ℕ} 65536 0xEEEEEEEE)
 
 pub code-buffer-spec : {M : Type 1} → statement M
 code-buffer-spec = tie.close (tie.spec returns)

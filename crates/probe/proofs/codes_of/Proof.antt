@@ -1,8 +1,9 @@
 -- Assumes nothing.
-use mathlib.Core.Path.{_≡_, refl}
+use mathlib.Core.Path.{_≡_, refl, sym}
 use Prim.Native.Nat.{_-_, _≤_}
 use native.Mathlib.Omega.{arith}
 use lib.ListN.{length, length-set}
+use lib.Seq.{length-take-le}
 use Rattle.probe.proofs.codes_of.Statement.{statement}
 use Rattle.probe.proofs.codes_of.Tie as tie
 
@@ -15,7 +16,9 @@ abbrev μ-loop : tie.MeasureT-loop
 pub codes-of-spec : {M : Type 1} → statement M
 codes-of-spec =
     tie.close
-    (tie.spec Inv-loop μ-loop (λ c. omega arith) (λ c κs. tt) (λ c. tt) (λ c. (omega arith, omega arith, refl))
-    (λ c κs. (omega arith, omega arith)) (λ c. omega arith) (λ c. omega arith) (λ c. omega arith) (λ c κs. tt) (λ c. omega arith) (λ c. tt)
-    (λ c. omega arith) (λ c. omega arith) (λ c. omega arith) (λ c. simp length-set (omega arith)) (λ c. tt) (λ c. omega arith)
-    (λ c. omega arith) (λ c. (omega arith, simp length-set (omega arith), simp length-set (omega arith))) (λ c. omega arith) (λ c. tt))
+    (tie.spec Inv-loop μ-loop (λ c. (omega arith, omega arith, refl)) (λ c κs. (omega arith, omega arith)) (λ c. omega arith)
+    (λ c. omega arith) (λ c. omega arith) (λ c κs. tt) (λ c. omega arith) (λ c. (omega arith, sym (length-take-le _ _ (omega arith))))
+    (λ c. omega arith) (λ c. omega arith) (λ c. omega arith) (λ c. simp length-set (omega arith))
+    (λ c. (simp length-set (omega arith), sym (length-take-le _ _ (simp length-set (omega arith))))) (λ c. omega arith) (λ c. omega arith)
+    (λ c. (omega arith, simp length-set (omega arith), simp length-set (omega arith))) (λ c. omega arith)
+    (λ c. (omega arith, sym (length-take-le _ _ (omega arith)))))

@@ -6,13 +6,13 @@ use Rattle.probe.proofs.put_codes.Statement.{statement}
 use Rattle.probe.proofs.put_codes.Tie as tie
 
 abbrev Inv-loop : tie.InvT-loop
-Inv-loop s q₀ i₀ i-end q i = i ≤ length s
+Inv-loop s i₀ i-end i = i ≤ length s
 
 abbrev μ-loop : tie.MeasureT-loop
-μ-loop s q₀ i₀ i-end q i = length s - i
+μ-loop s i₀ i-end i = length s - i
 
 pub put-codes-spec : {M : Type 1} → statement M
 put-codes-spec =
     tie.close
-    (tie.spec Inv-loop μ-loop (λ c κs. tt) (λ c. tt) (λ c. omega arith) (λ c. omega arith) (λ c. omega arith) (λ c κs. tt)
+    (tie.spec Inv-loop μ-loop (λ c. omega arith) (λ c κs. tt) (λ c. omega arith) (λ c. omega arith) (λ c. omega arith) (λ c κs. tt)
     (λ c. omega arith) (λ c. omega arith) (λ c. omega arith) (λ c. tt))

@@ -1,17 +1,18 @@
 -- Assumes nothing.
 use Prim.Native.Nat.{_-_, _≤_}
 use native.Mathlib.Omega.{arith}
-use Rattle.probe.proofs.all_agree.Statement.{statement}
-use Rattle.probe.proofs.all_agree.Tie as tie
+use lib.ListN.{length}
+use Rattle.probe.proofs.all_digits.Statement.{statement}
+use Rattle.probe.proofs.all_digits.Tie as tie
 
 abbrev Inv-loop : tie.InvT-loop
-Inv-loop width bytes text cuts k₀ k = k ≤ cuts
+Inv-loop s i₀ i-end i = i ≤ length s
 
 abbrev μ-loop : tie.MeasureT-loop
-μ-loop width bytes text cuts k₀ k = cuts - k
+μ-loop s i₀ i-end i = length s - i
 
-pub all-agree-spec : {M : Type 1} → statement M
-all-agree-spec =
+pub all-digits-spec : {M : Type 1} → statement M
+all-digits-spec =
     tie.close
     (tie.spec Inv-loop μ-loop (λ c. omega arith) (λ c. omega arith) (λ c κs. tt) (λ c. tt) (λ c. omega arith) (λ c. omega arith)
     (λ c. omega arith) (λ c. tt))
