@@ -228,14 +228,22 @@ fn room_of(s: &[u8]) -> usize {
     number_of(word(s, b' ', 2), 10, LONGEST, 65536).value as usize
 }
 
-// ---- answers, written as they are made; whether they can be is asked at the end of each line
+// ---- answers, written as they are made
+
+// A write that failed is told on standard error.
+fn passed(written: bool) -> bool {
+    if !written {
+        os::fail(b"probe: standard output");
+    }
+    written
+}
 
 fn say(s: &[u8]) {
-    io::write_all(STDOUT_FILENO, s);
+    passed(io::write_all(STDOUT_FILENO, s));
 }
 
 fn put_decimal(value: usize) {
-    io::print_decimal(STDOUT_FILENO, value as u64);
+    passed(io::print_decimal(STDOUT_FILENO, value as u64));
 }
 
 fn hex_digit(n: u8) -> u8 {
@@ -648,7 +656,7 @@ fn obey(s: &[u8]) {
     }
 }
 
-// Answers a line of so many bytes, of which this part was kept, and tells whether that could be written. A remark is its own answer.
+// Answers a line of so many bytes, of which this part was kept, and tells whether its end could be written. A remark is its own answer.
 fn answer(s: &[u8], len: usize) -> bool {
     let why = refusal(s, len);
     match why {
@@ -656,11 +664,7 @@ fn answer(s: &[u8], len: usize) -> bool {
         FINE => obey(s),
         _ => put_error(why),
     }
-    if io::write_all(STDOUT_FILENO, b"\n") {
-        return true;
-    }
-    os::fail(b"probe: standard output");
-    false
+    passed(io::write_all(STDOUT_FILENO, b"\n"))
 }
 
 // What a byte of input brings to the line, whose length then this answers; or STOPPED if an answer cannot be written.
