@@ -9,7 +9,7 @@ use borrow.Author.Needs.{needs, sfits-of}
 use borrow.Author.Tests.{eq-eqb, ne-eqb, le-leb, lt-leb}
 use Rattle.encode.specs.declared.Encoded.{Encoded}
 use Rattle.encode.specs.Writing.{Writing, encoding, encodedOf}
-use Rattle.encode.proofs.Theorems.{refused-nothing, within-room}
+use Rattle.encode.proofs.Theorems.{refused-nothing, within}
 use Rattle.numbers.specs.Number.{low-first}
 use Rattle.packed.specs.Bytes.{codesOf}
 use Rattle.utf8b.specs.Entry.{answerOf, given, encode-entry}
@@ -50,7 +50,7 @@ module _ (c : tie.After-encode-packed) where
 
   few : c .encode-packed .result .produced ≤ 1048576
   unfolding encodedOf
-  few = rw (c .encode-packed .ensures .0) (omega (arith, within-room (start .args .flags) (length (start .args .dst .now)) (codesOf (start .args .codes .now)), c .before .before .before .if3 .left))
+  few = rw (c .encode-packed .ensures .0) (omega (arith, within (start .args .flags) (length (start .args .dst .now)) (codesOf (start .args .codes .now)) .0, c .before .before .before .if3 .left))
 
 returns-6 : tie.Need-returns-6
 unfolding encodedOf
