@@ -14,8 +14,9 @@ use Rattle.packed.specs.Bytes.{laid, codesOf}
 use Rattle.utf8b.specs.Entry.{given, decode-entry, encode-entry}
 use Rattle.packed.proofs.Bytes.{laid-length, laid-again}
 use Rattle.utf8b.proofs.Answers.{decode-given, encode-given}
+use Rattle.roundtrip.specs.Demand.{utf8}
 use Rattle.roundtrip.specs.Entries.{Buffer, Gives, Through}
-use Rattle.roundtrip.proofs.Holds.{read-accepted}
+use Rattle.roundtrip.proofs.Holds.{read-accepted, utf8-lists}
 
 -- every accepted code has four bytes
 narrow : (l : List ℕ) → Accepted l → All (λ c. c < 4294967296) l
@@ -35,7 +36,7 @@ written-out : (s e q : List ℕ) → Bytes s → length s * 4 ≤ 1048576 → Bu
 unfolding given
 written-out s e q b m h k =
     let l = read plain s in
-    let a = read-accepted s b in
+    let a = read-accepted utf8 utf8-lists s b in
     let x = plain-demand3 .exact s b in
     let n = laid-length l in
     let w : encoding 0 (length e) (codesOf (laid l)) ≡ record { number = 0; consumed = length l; written = s } =

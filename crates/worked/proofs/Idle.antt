@@ -10,7 +10,7 @@ use Rattle.form.specs.Text.{Bytes}
 use Rattle.decode.specs.Reading.{stopped, follow, decoding}
 use Rattle.encode.specs.Writing as Writing
 use Rattle.encode.specs.Writing.{refuses, bytes, after, encoding}
-use Rattle.roundtrip.specs.Demand.{Writes, needs}
+use Rattle.roundtrip.specs.Demand.{utf8, Writes, needs}
 use Rattle.utf16.specs.Utf16.{utf16}
 use Rattle.state.specs.Meaning.{padded, recordOf, meaning, sense, senseOf}
 use Rattle.advance.specs.Step.{incomplete, unit, step}
@@ -32,7 +32,7 @@ same-codes l h =
     let e : _≡_ {A = ℕ} 0x34 0x30 = ap first (h 1 1 (0x34 ∷ []) ∙ sym (h 1 1 (0x30 ∷ []))) in omega arith
 
 -- by demand 3: no list is written as every byte string, as the list must be that is read from them all
-pub same-list : (l : List ℕ) (w : ℕ) → ((s : List ℕ) → Bytes s → Writes w l s) → ⊥
+pub same-list : (l : List ℕ) (w : ℕ) → ((s : List ℕ) → Bytes s → Writes utf8 w l s) → ⊥
 same-list l w h =
     let e : _≡_ {A = ℕ} 0x34 0x30 = ap first (sym (h (0x34 ∷ []) (omega arith, tt) .2) ∙ h (0x30 ∷ []) (omega arith, tt) .2) in omega arith
 
@@ -52,7 +52,7 @@ unfolding plain decoding flagsOf reader-refuses stopped follow
 copier h = let e : _≡_ {A = ℕ} 0xDC80 0x80 = ap first (h (0x80 ∷ []) (omega arith, tt)) in omega arith
 
 -- by demand 3: the list that it gives for the byte 80 is the clean list of the code 80, which is written C2 80
-pub copied : ((s : List ℕ) (w : ℕ) → Bytes s → needs s ≤ w → Writes w s s) → ⊥
+pub copied : ((s : List ℕ) (w : ℕ) → Bytes s → needs utf8 s ≤ w → Writes utf8 w s s) → ⊥
 unfolding plain writer-refuses flagsOf Writing.stopped refuses bytes after encoding
 copied h = let e : _≡_ {A = ℕ} 0xC2 0x80 = ap first (h (0x80 ∷ []) 2 (omega arith, tt) (omega arith) .2) in omega arith
 

@@ -5,7 +5,7 @@ use Prim.Native.Nat.{ℕ}
 use lib.ListN.{length}
 use Rattle.decode.specs.Reading.{decoding}
 use Rattle.encode.specs.Writing.{encoding}
-use Rattle.roundtrip.specs.Demand.{CleanList}
+use Rattle.roundtrip.specs.Demand.{utf8, CleanList}
 use Rattle.advance.specs.Step.{continuation, incomplete, unit, Told, tell}
 use Rattle.restart.specs.Runs.{sixteen, answers, state-after}
 use Rattle.restart.specs.Packets.{start}
@@ -48,8 +48,8 @@ pub record Lines : Type 0 where
   -- the writer's line
   pub escapes-written : Writes 3 (0xDCE2 ∷ 0xDC80 ∷ 0xDCB2 ∷ []) (0xE2 ∷ 0x80 ∷ 0xB2 ∷ [])
   pub prime-written : Writes 3 (0x2032 ∷ []) (0xE2 ∷ 0x80 ∷ 0xB2 ∷ [])
-  pub prime-clean : CleanList (0x2032 ∷ [])
-  pub escapes-unclean : CleanList (0xDCE2 ∷ 0xDC80 ∷ 0xDCB2 ∷ []) → ⊥
+  pub prime-clean : CleanList utf8 (0x2032 ∷ [])
+  pub escapes-unclean : CleanList utf8 (0xDCE2 ∷ 0xDC80 ∷ 0xDCB2 ∷ []) → ⊥
   -- the droplet as 16-bit units
   pub droplet-units : Run ((0xF0 ∷ 0x9F ∷ 0x92 ∷ 0xA7 ∷ []) ∷ [] ∷ []) (tell unit 0 0xD83D 4 0 ∷ tell continuation 0 0xDCA7 0 0 ∷ [])
   -- the 16-bit step, whole run
