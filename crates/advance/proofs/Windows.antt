@@ -38,6 +38,18 @@ drop-zeros zero n = zeros n (n - 0) (omega arith)
 drop-zeros (suc m) zero = zeros 0 (0 - suc m) (omega arith)
 drop-zeros (suc m) (suc n) = drop-zeros m n ∙ zeros (n - m) (suc n - suc m) (omega arith)
 
+module _ {F : Form} {n : ℕ} (S : Scans F n) where
+  -- a sequence ends after the bytes held
+  pub ends-after : (h i : List ℕ) (c m : ℕ) → scan F h ≡ part → scan F (h ++ i) ≡ well c m → length h < m
+  ends-after h i c m p e = go (decLe m (length h))
+    where
+      go : Dec (m ≤ length h) → length h < m
+      go (no n) = omega arith
+      go (yes n) =
+          let w = S .finds-well (h ++ i) c m .0 e .0 in
+          let z : _≡_ {A = ℕ} 0 1 = cc (p, S .finds-well h c m .1 (rw (take-append-le m h i n) at w, n)) in
+          absurd (omega arith)
+
 module _ {F : Form} (S : Scans F 4) where
   -- four bytes decide
   full : (s : List ℕ) → 4 ≤ length s → scan F s ≡ part → ⊥
@@ -50,17 +62,6 @@ module _ {F : Form} (S : Scans F 4) where
       go (well c m) e = S .well-stays s t c m e ∙ sym e
       go part e = absurd (h e)
       go (bad m) e = S .bad-stays s t m e ∙ sym e
-
-  -- a sequence ends after the bytes held
-  pub ends-after : (h i : List ℕ) (c m : ℕ) → scan F h ≡ part → scan F (h ++ i) ≡ well c m → length h < m
-  ends-after h i c m p e = go (decLe m (length h))
-    where
-      go : Dec (m ≤ length h) → length h < m
-      go (no n) = omega arith
-      go (yes n) =
-          let w = S .finds-well (h ++ i) c m .0 e .0 in
-          let z : _≡_ {A = ℕ} 0 1 = cc (p, S .finds-well h c m .1 (rw (take-append-le m h i n) at w, n)) in
-          absurd (omega arith)
 
   module _ {s : Record} (l : length (s .bytes) ≡ 14) (H : Holding F s) (i : List ℕ) where
     abbrev n : ℕ
@@ -141,4 +142,4 @@ module _ {F : Form} (S : Scans F 4) where
     reads-code c k e z = (λ W. by W (well c k) e ∙ rw (ne-eqb c 0 z) (ap (λ (h : ℕ). convert W c (k - h)) held-length), refl)
 
     pub code-after : (c k : ℕ) → scan F (used s ++ i) ≡ well c k → n < k
-    code-after c k e = rw held-length at (ends-after (used s) i c k (H .partial) e)
+    code-after c k e = rw held-length at (ends-after S (used s) i c k (H .partial) e)

@@ -2,20 +2,20 @@
 -- Assumes nothing.
 use mathlib.Core.Path.{_≡_, refl, sym, ap, _∙_}
 use mathlib.Core.Logic.{_⊎_, inl, inr, ⊎-elim}
-use mathlib.Core.Bool.{Bool, true, false, _&&_, cond}
 use mathlib.Core.List.{List, [], _∷_, _++_, append-nil}
-use Prim.Native.Nat.{ℕ, suc, _+_, _-_, _%_, _≤_, _<_}
+use Prim.Native.Nat.{ℕ, _+_, _≤_, _<_}
 use native.Mathlib.Omega.{arith}
-use lib.Dec.{T, leb, ltb, leb→le}
+use lib.Dec.{T}
 use lib.ListN.{length}
 use borrow.Author.Tests.{le-leb, le-ltb}
-use Rattle.form.specs.Table.{Range, _to_, row, Form, plain, surro, surrogates, In, Fits, size, InAny, Codes, scalars}
+use Rattle.form.specs.Table.{Range, _to_, row, Form, plain, surro, surrogates, In, Fits, InAny, Codes, scalars}
 use Rattle.form.specs.Pattern.{pattern}
-use Rattle.form.specs.Text.{digits, sequence, Bytes}
+use Rattle.form.specs.Text.{sequence, Bytes}
 use Rattle.form.proofs.Tests.{open?, proper-rows, ascending, tiles, at-most}
-use Rattle.form.proofs.Rows.{both, fits-length}
+use Rattle.form.proofs.Rows.{fits-length}
 use Rattle.form.proofs.Codes.{codes-iff, codes-sequence, sequence-codes}
 use Rattle.form.proofs.Demand.{sequence-bytes, proper-surrogates}
+use Rattle.form.proofs.EncodingForms.{sequence-few}
 use Rattle.form.proofs.Utf8.{plain-sound, plain-pattern, surro-regular, surro-codes, surro-pattern, surrogate-pattern, scalar-below}
 use Rattle.form.proofs.Sequences.{Kind, scalar, surrogate, beyond, kind, scalar-outside, skipped, surro-ascending, pattern-bytes}
 
@@ -23,19 +23,6 @@ abbrev three : Form
 three = surrogates ∷ []
 
 -- ---- what holds of any rows
-
-digits-length : (rs : List Range) (i : ℕ) → length (digits rs i) ≡ length rs
-digits-length [] i = refl
-digits-length (lo to hi ∷ rs) i = ap suc (digits-length rs (i % size rs))
-
--- no sequence is longer than the longest row
-sequence-few : (n : ℕ) (F : Form) (c : ℕ) → T (at-most n F) → length (sequence F c) ≤ n
-sequence-few n [] c t = omega arith
-sequence-few n (row k rs ∷ F) c t = let (p, q) = both (leb (length rs) n) (at-most n F) t in go (leb k c && ltb c (k + size rs)) p (sequence-few n F c q)
-  where
-    go : (b : Bool) → T (leb (length rs) n) → length (sequence F c) ≤ n → length (cond b (digits rs (c - k)) (sequence F c)) ≤ n
-    go true p ih = omega (arith, digits-length rs (c - k), leb→le (length rs) n p)
-    go false p ih = ih
 
 -- a well-formed sequence has a byte
 codes-some : (F : Form) (w : List ℕ) (c : ℕ) → T (open? F) → Codes F w c → 1 ≤ length w

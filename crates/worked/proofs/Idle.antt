@@ -57,7 +57,7 @@ unfolding plain writer-refuses flagsOf Writing.stopped refuses bytes after encod
 copied h = let e : _≡_ {A = ℕ} 0xC2 0x80 = ap first (h (0x80 ∷ []) 2 (omega arith, tt) (omega arith) .2) in omega arith
 
 -- a step that converts its first sequence and then only repeats incomplete: after 34 comes 30
-pub repeats-incomplete : (b : Bits) → ((i j : List ℕ) → reading b start i .answer .name ≡ unit → reading b (reading b start i .next) j .answer .name ≡ incomplete) → ⊥
+pub repeats-incomplete : (b : Bits) → ((i j : List ℕ) → reading plain b start i .answer .name ≡ unit → reading plain b (reading plain b start i .next) j .answer .name ≡ incomplete) → ⊥
 unfolding plain utf16 padded recordOf meaning sense senseOf step
 repeats-incomplete eight h = let e : unit ≡ incomplete = h (0x34 ∷ []) (0x30 ∷ []) refl in let z : _≡_ {A = ℕ} 0 1 = cc in omega arith
 repeats-incomplete sixteen h = let e : unit ≡ incomplete = h (0x34 ∷ []) (0x30 ∷ []) refl in let z : _≡_ {A = ℕ} 0 1 = cc in omega arith

@@ -3,6 +3,7 @@ use mathlib.Core.Path.{_≡_}
 use mathlib.Core.List.{List, [], _∷_}
 use Prim.Native.Nat.{ℕ}
 use lib.ListN.{length}
+use Rattle.form.specs.Table.{plain}
 use Rattle.decode.specs.Reading.{decoding}
 use Rattle.encode.specs.Writing.{encoding}
 use Rattle.roundtrip.specs.Demand.{utf8, CleanList}
@@ -30,7 +31,7 @@ Writes w l s = encoding 0 w l ≡ record { number = 0; consumed = length l; writ
 
 -- from the starting state and back to it, the 16-bit step gives these answers to these inputs
 abbrev pub Run : List (List ℕ) → List Told → Type 0
-Run is l = (answers sixteen start is ≡ l) × (state-after sixteen start is ≡ start)
+Run is l = (answers plain sixteen start is ≡ l) × (state-after plain sixteen start is ≡ start)
 
 pub record Lines : Type 0 where
   pub none : Gives LAST [] []
