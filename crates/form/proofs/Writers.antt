@@ -1,8 +1,7 @@
--- The rows of the writer, which are a form's and after them the surrogates': what they give for a code, for any form that passes the tests.
--- Assumes nothing.
-use mathlib.Core.Path.{_≡_, refl, sym, ap, _∙_}
+-- What the writer's rows give, which are a form's and after them the surrogates'. Assumes nothing.
+use mathlib.Core.Path.{_≡_, refl, ap, _∙_}
 use mathlib.Core.Logic.{_⊎_, inl, inr, ⊎-elim}
-use mathlib.Core.List.{List, [], _∷_, _++_, append-nil}
+use mathlib.Core.List.{List, [], _∷_, _++_}
 use Prim.Native.Nat.{ℕ, _+_, _≤_, _<_}
 use native.Mathlib.Omega.{arith}
 use lib.Dec.{T}
@@ -17,7 +16,7 @@ use Rattle.form.proofs.Codes.{codes-iff, codes-sequence, sequence-codes
 use Rattle.form.proofs.Demand.{sequence-bytes, proper-surrogates}
 use Rattle.form.proofs.EncodingForms.{sequence-few}
 use Rattle.form.proofs.Utf8.{plain-sound, plain-pattern, surro-regular, surro-codes, surro-pattern, surrogate-pattern, scalar-below}
-use Rattle.form.proofs.Sequences.{Kind, scalar, surrogate, beyond, kind, scalar-outside, skipped, surro-ascending, pattern-bytes}
+use Rattle.form.proofs.Sequences.{Kind, scalar, surrogate, beyond, kind, scalar-outside, skipped, no-sequence, surro-ascending, pattern-bytes}
 
 abbrev three : Form
 three = surrogates ∷ []
@@ -29,10 +28,6 @@ codes-some : (F : Form) (w : List ℕ) (c : ℕ) → T (open? F) → Codes F w c
 codes-some [] w c t h = absurd h
 codes-some (row k [] ∷ F) w c t h = absurd t
 codes-some (row k (r ∷ rs) ∷ F) w c t h = ⊎-elim (λ (u : Fits (r ∷ rs) w × (c ≡ k + _)). omega (arith, fits-length (r ∷ rs) w (u .0))) (λ u. codes-some F w c t u) h
-
--- rows that a code is in none of give nothing
-pub no-sequence : (F : Form) (c : ℕ) → ((w : List ℕ) → Codes F w c → ⊥) → sequence F c ≡ []
-no-sequence F c h = ap (λ (G : Form). sequence G c) (sym (append-nil F)) ∙ skipped F [] c h
 
 -- above the surrogates only the form's own rows count
 pub own-rows : (F : Form) (c : ℕ) → 0xDFFF < c → sequence (F ++ (surrogates ∷ [])) c ≡ sequence F c
@@ -53,9 +48,6 @@ pub record Writer (F : Form) (n : ℕ) : Type 0 where
   pub most : (c : ℕ) → length (sequence (F ++ (surrogates ∷ [])) c) ≤ n
   pub are-bytes : (c : ℕ) → Bytes (sequence (F ++ (surrogates ∷ [])) c)
   pub none-beyond : (c : ℕ) → 0x10FFFF < c → sequence F c ≡ []
-
-pub wider : {F : Form} {n : ℕ} (m : ℕ) → n ≤ m → Writer F n → Writer F m
-wider m h W = record { low = W .low; some = W .some; most = λ c. omega (arith, W .most c); are-bytes = W .are-bytes; none-beyond = W .none-beyond }
 
 -- a code of the form's, or a surrogate that it does not have
 abbrev Lies : List Range → ℕ → Type 0
