@@ -56,7 +56,7 @@ module _ {F : Form} {n : ℕ} (E : EncodingForm F n) (room : n ≤ 15) where
       go : (x : Sense) → senseOf F s ≡ x → Reader F b s
       go invalid e = out [] (λ i. rw e refl)
       go (valid starting) e = holds [] e
-      go (valid (held [])) e = let v = sense-valid E room s (held []) e in absurd (omega arith)
+      go (valid (held [])) e = let v = sense-valid E s (held []) e in absurd (omega arith)
       go (valid (held (x ∷ h))) e = holds (x ∷ h) e
       go (valid (trail us)) e = out (width b .due (trail us)) (λ i. rw e refl)
       go (valid (low u)) e = out (width b .due (low u)) (λ i. rw e refl)
@@ -88,7 +88,7 @@ module _ {F : Form} {n : ℕ} (E : EncodingForm F n) (room : n ≤ 15) where
   waits b s h i e k =
       let p = reads-name (width b) h i (scan F (h ++ i)) (sym (ap named (reads-on F b s h i e)) ∙ k) in
       let next = ap (λ (x : Step). senseOf F (x .next)) (found b s h i part e p) in
-      record { parts = p; after = next ∙ sense-state E room (hold (h ++ i)) (part-hold E room (h ++ i) p) }
+      record { parts = p; after = next ∙ sense-state E room (hold (h ++ i)) (part-hold E (h ++ i) p) }
 
   -- code 0 is one byte, so nothing was held before it
   null-first : (s t : List ℕ) (m : ℕ) → scan F s ≡ part → scan F (s ++ t) ≡ well 0 m → length s ≡ 0
@@ -135,7 +135,7 @@ module _ {F : Form} {n : ℕ} (E : EncodingForm F n) (room : n ≤ 15) where
   -- after a call x whose answer has the name a
   decided-from : (is : List (List ℕ)) (b : Bits) (x : Step) (a : Name) (h : List ℕ) → named x ≡ a → (a ≡ incomplete → senseOf F (x .next) ≡ valid (hold h))
       → n ≤ length h + total is → named (going-on F b x a is) ≡ incomplete → ⊥
-  decided-from [] b x a h e f l g = omega (arith, few E room h (sense-valid E room (x .next) (hold h) (f (sym e ∙ g))))
+  decided-from [] b x a h e f l g = omega (arith, few E h (sense-valid E (x .next) (hold h) (f (sym e ∙ g))))
   decided-from (i ∷ is) b x incomplete h e f l g =
       let s = x .next in
       decided-from is b (reading F b s i) (named (reading F b s i)) (h ++ i) refl (λ q. waits b s h i (f refl) q .after) (omega (arith, length-append h i)) g

@@ -114,7 +114,7 @@ module _ {F : Form} {n : ℕ} (E : EncodingForm F n) (room : n ≤ 15) where
   out (u ∷ us) b m s [] d e l = absurd (omega arith)
   out (u ∷ us) b m s (i ∷ is) d e l =
       let n = left (width b) us in
-      let (q, v) = others F d (sense-valid E room s m e) in
+      let (q, v) = others F d (sense-valid E s m e) in
       let r = out us b n (recordOf n) is q (sense-state E room n v) (omega arith) in
       rw (comes F s i d e) (ap (λ (t : List Told). tell continuation 0 u 0 0 ∷ t) (r .0), λ h. r .1 (left-none b us))
 
