@@ -1,16 +1,16 @@
 // The steps over records: bytes to 8-bit units, to 16-bit units and to wide codes, and 16-bit units back to bytes.
 use advance::Answer;
 use advance::Reading;
+use back::Written;
 use classify::Form;
 use state::Record;
-use units::Written;
 use validity::Kind;
 ghost use mathlib.Core.Path.{_≡_};
 ghost use lib.ListN.{length};
 ghost use Rattle.form.specs.Table.{plain};
 ghost use Rattle.classify.specs.Lead.{rowsOf};
 ghost use Rattle.units.specs.Width.{width8, width16, width32};
-ghost use Rattle.units.specs.Back.{backOf, step-back};
+ghost use Rattle.back.specs.Back.{backOf, step-back};
 ghost use Rattle.advance.specs.Step.{step};
 ghost use Rattle.moves.specs.Moves.{movedOf};
 
@@ -86,11 +86,11 @@ pub fn move_back(s: Record, u: u16) -> Written
 {
     let b = s.bytes;
     match validity::kind_of(Form::Plain, s) {
-        Kind::Starting => units::back_alone(u),
-        Kind::Partial => units::refused(s),
-        Kind::Trail => units::refused(s),
-        Kind::Low => units::refused(s),
-        Kind::High => units::back_after(state::unit_of(b[0], b[1]), u),
-        Kind::Invalid => units::refused(s),
+        Kind::Starting => back::back_alone(u),
+        Kind::Partial => back::refused(s),
+        Kind::Trail => back::refused(s),
+        Kind::Low => back::refused(s),
+        Kind::High => back::back_after(state::unit_of(b[0], b[1]), u),
+        Kind::Invalid => back::refused(s),
     }
 }

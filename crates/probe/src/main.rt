@@ -1,5 +1,6 @@
 // Tries one call a line: a command on standard input, its answer on standard output. `probe --help` lists the commands.
 use advance::Answer;
+use back::Back;
 use decode::Decoded;
 use encode::Encoded;
 use libc::STDERR_FILENO;
@@ -8,7 +9,6 @@ use libc::STDOUT_FILENO;
 use state::Record;
 use steps::State;
 use steps::Stepped;
-use units::Back;
 ghost use mathlib.Core.Path.{_≡_};
 ghost use Prim.Native.Nat.{_≤_};
 ghost use lib.ListN.{length};

@@ -20,8 +20,8 @@ use Rattle.state.specs.Meaning.{Meaning, starting, held, trail, low, high, Vali
 use Rattle.state.specs.declared.Record.{Record}
 use Rattle.units.specs.Width.{left}
 use Rattle.advance.specs.Step.{continuation, Told, tell, to, reads, step}
-use Rattle.units.specs.Back as Back
-use Rattle.units.specs.Back.{step-back}
+use Rattle.back.specs.Back as Back
+use Rattle.back.specs.Back.{step-back}
 use Rattle.restart.specs.Runs.{Bits, eight, sixteen, thirty-two, width, reading, answers, state-after, bytes-back, state-back}
 use Rattle.restart.specs.Packets.{start}
 use Rattle.restart.proofs.States.{Units, code-units, sense-state, sense-valid, reads-on, fits}

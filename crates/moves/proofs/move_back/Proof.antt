@@ -6,7 +6,7 @@ use Rattle.form.specs.Table.{plain}
 use Rattle.form.proofs.Utf8.{plain-scans}
 use Rattle.validity.specs.declared.Kind.{Kind}
 use Rattle.state.specs.Meaning.{Sense, valid, high, senseOf}
-use Rattle.units.specs.Back.{after, back-by, step-back}
+use Rattle.back.specs.Back.{after, back-by, step-back}
 use Rattle.validity.proofs.Told.{Is, told-is}
 use Rattle.state.proofs.Laid.{shows, unit-where}
 use Rattle.moves.proofs.move_back.Statement.{statement}
