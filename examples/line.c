@@ -11,8 +11,8 @@ int main(void)
 
     if (count < 0)
         return 1;
-    for (const uint8_t *code = codes; code < codes + 4 * count; code += 4)
-        printf("U+%02X%02X%02X\n", code[2], code[1], code[0]);
+    for (size_t i = 0; i < (size_t)count; i++)
+        printf("U+%06lX\n", (unsigned long)utf8b_code(codes, i));
     if (utf8b_encode(codes, 4 * (size_t)count, again, sizeof again, 0, report, sizeof report) != (int64_t)sizeof line)
         return 1;
     puts(memcmp(line, again, sizeof line) == 0 ? "the same bytes" : "other bytes");

@@ -16,15 +16,6 @@ struct line {
     size_t unread_len, codes_len;
 };
 
-static size_t count_of(const uint8_t report[UTF8B_REPORT])
-{
-    size_t count = 0;
-
-    for (int i = UTF8B_REPORT; i-- > 0;)
-        count = count * 256 + report[i];
-    return count;
-}
-
 static size_t checked(int64_t answer)
 {
     if (answer < 0) {
@@ -53,14 +44,14 @@ static void read_on(struct line *line, uint32_t flags)
     line->codes_len += 4 * checked(utf8b_decode(line->unread, line->unread_len,
                                                 line->codes + line->codes_len, sizeof line->codes - line->codes_len,
                                                 flags, report, sizeof report));
-    consumed = count_of(report);
+    consumed = utf8b_consumed(report);
     line->unread_len -= consumed;
     memmove(line->unread, line->unread + consumed, line->unread_len);
 }
 
 static void receive(struct line *line, const uint8_t *packet, size_t len, uint32_t flags)
 {
-    const uint8_t *code = line->codes + line->codes_len;
+    size_t at = line->codes_len / 4;
 
     append(line, packet, len);
     read_on(line, flags);
@@ -68,8 +59,8 @@ static void receive(struct line *line, const uint8_t *packet, size_t len, uint32
     for (size_t i = 0; i < len; i++)
         printf(" %02X", packet[i]);
     printf(" gives");
-    for (; code < line->codes + line->codes_len; code += 4)
-        printf(" U+%04lX", code[0] | code[1] << 8 | (unsigned long)code[2] << 16);
+    for (; at < line->codes_len / 4; at++)
+        printf(" U+%04lX", (unsigned long)utf8b_code(line->codes, at));
     printf(", unread: %u\n", (unsigned)line->unread_len);
 }
 

@@ -33,13 +33,13 @@ extern "C" {
 #define UTF8B_SHOW 8u   /* read each bad byte as U+FFFD; refused with UTF8B_STRICT, and by the writer */
 
 /* Answers below 0.  After all but the first, no buffer has been changed. */
-#define UTF8B_BAD (-1)             /* bad at once, with nothing produced; the report holds 0 */
+#define UTF8B_BAD (-1)             /* bad at once, with nothing produced; the report's count is 0 */
 #define UTF8B_REFUSED_FLAGS (-4)   /* unknown or clashing flags */
 #define UTF8B_REFUSED_REPORT (-6)  /* report_len is not UTF8B_REPORT */
 #define UTF8B_REFUSED_CODES (-7)   /* utf8b_encode: codes_len is no multiple of 4 */
 #define UTF8B_REFUSED_LENGTH (-8)  /* an input or output of more than UTF8B_LIMIT bytes */
 
-#define UTF8B_REPORT 8      /* bytes in a report */
+#define UTF8B_REPORT 9      /* bytes in a report: a count in 8, low byte first, and a length in 1 */
 #define UTF8B_LIMIT 1048576 /* most bytes in an input or output */
 
 /*
@@ -47,12 +47,24 @@ extern "C" {
  * codes beyond those produced stay as they are.
  *
  * Answers how many codes were produced, or one of the answers below 0.  The report
- * gets the number of bytes consumed, low byte first.  Reading stops
+ * gets the number of bytes consumed and, where reading stopped before bad bytes, the
+ * length of the bad stretch, 1 to 3, else 0.  Reading stops
  *   - at the end of src;
  *   - without UTF8B_LAST, before a sequence that src cuts off: at most 3 bytes
  *     are left, to be put before the next;
  *   - with UTF8B_STRICT, before the first bad byte;
  *   - where the room is full.
+ *
+ * Which of them it was:
+ *   - the length is not 0: bad bytes, so many of them;
+ *   - all of src is consumed: its end;
+ *   - fewer codes than the room: a sequence that src cuts off;
+ *   - else the room is full.  What is left may then be a cut sequence, too: it is
+ *     if a call for what is left, with room, consumes nothing.
+ *
+ * The bad stretch is the maximal subpart of the Unicode Standard (section 3.9): the
+ * longest beginning of a well-formed sequence there, or else one byte.  A sequence
+ * cut off at the end, bad with UTF8B_LAST, is one whole.
  */
 int64_t utf8b_decode(const uint8_t *src, size_t src_len,
                      uint8_t *codes, size_t codes_len,
@@ -64,7 +76,7 @@ int64_t utf8b_decode(const uint8_t *src, size_t src_len,
  * no code is written in part; codes_len bytes of room are always enough.
  *
  * Answers how many bytes were produced, or one of the answers below 0.  The report
- * gets the number of codes consumed, low byte first.  Writing stops
+ * gets the number of codes consumed, and 0 for the length.  Writing stops
  *   - at the end of the codes;
  *   - before a code above 10FFFF and, with UTF8B_STRICT without UTF8B_SURRO, before
  *     a surrogate;
@@ -74,6 +86,33 @@ int64_t utf8b_encode(const uint8_t *codes, size_t codes_len,
                      uint8_t *dst, size_t dst_len,
                      uint32_t flags,
                      uint8_t *report, size_t report_len);
+
+/* What every caller needs of a report and of codes.  These are C, tested and not proved. */
+
+/* The bytes or codes consumed. */
+static inline size_t utf8b_consumed(const uint8_t *report)
+{
+    uint64_t count = 0;
+    int i;
+
+    for (i = 8; i-- > 0;)
+        count = count << 8 | report[i];
+    return (size_t)count;
+}
+
+/* The length of the bad stretch that reading stopped before, or 0. */
+static inline size_t utf8b_bad_length(const uint8_t *report)
+{
+    return report[8];
+}
+
+/* Code i, from 0. */
+static inline uint32_t utf8b_code(const uint8_t *codes, size_t i)
+{
+    const uint8_t *code = codes + 4 * i;
+
+    return code[0] | (uint32_t)code[1] << 8 | (uint32_t)code[2] << 16 | (uint32_t)code[3] << 24;
+}
 
 #ifdef __cplusplus
 }

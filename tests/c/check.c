@@ -93,7 +93,7 @@ static void check_side(const struct call *c, const struct outcome *o, enum side 
     uint8_t *in = guarded_place(&m->in, c->in_len, side);
     uint8_t *out = guarded_place(&m->out, c->out_len, side);
     uint8_t *report = guarded_place(&m->report, c->report_len, side);
-    uint8_t consumed[8];
+    uint8_t expected[REPORT];
     unsigned long before = failures;
     int64_t answer;
 
@@ -103,7 +103,8 @@ static void check_side(const struct call *c, const struct outcome *o, enum side 
     if (c->in_len)
         memcpy(in, c->in, c->in_len);
     for (int i = 0; i < 8; i++)
-        consumed[i] = (uint8_t)(o->consumed >> (8 * i));
+        expected[i] = (uint8_t)(o->consumed >> (8 * i));
+    expected[8] = o->bad_length;
 
     current = c;
     answer = enter(c->decode, in, c->in_len, out, c->out_len, c->flags, report, c->report_len);
@@ -116,17 +117,17 @@ static void check_side(const struct call *c, const struct outcome *o, enum side 
         failed("the input is changed");
     if (!guarded_holds(&m->out, out, o->out, o->written))
         failed("other bytes in the output, or changed beyond it");
-    if (!guarded_holds(&m->report, report, consumed, o->reported ? 8 : 0))
+    if (!guarded_holds(&m->report, report, expected, o->reported ? REPORT : 0))
         failed("another report, or changed beyond it");
     if (failures == before)
         return;
     show_call(c);
-    printf("  expected answer %" PRId64 ", consumed %" PRIu64 "; the answer is %" PRId64 "\n", o->answer, o->consumed,
-           answer);
+    printf("  expected answer %" PRId64 ", consumed %" PRIu64 ", bad length %d; the answer is %" PRId64 "\n", o->answer,
+           o->consumed, o->bad_length, answer);
     show_bytes("expected", o->out, o->written);
     show_bytes("output", out, o->written);
-    if (c->report_len == 8)
-        show_bytes("report", report, 8);
+    if (c->report_len == REPORT)
+        show_bytes("report", report, REPORT);
     stop_if_many();
 }
 

@@ -4,6 +4,9 @@
 
 #include "model.h"
 
+/* The bytes in a report. */
+enum { REPORT = 9 };
+
 /* Names the test that the following calls belong to. */
 void check_begin(const char *name);
 

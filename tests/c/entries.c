@@ -39,7 +39,7 @@ size_t damaged_text(uint8_t *s, size_t n)
 
 void try_call(int decode, const uint8_t *in, size_t in_len, size_t out_len, uint32_t flags)
 {
-    struct call c = {decode, flags, in, in_len, out_len, 8};
+    struct call c = {decode, flags, in, in_len, out_len, REPORT};
 
     check_model(&c);
 }
@@ -48,6 +48,7 @@ int main(int argc, char **argv)
 {
     small = argc > 1 && strcmp(argv[1], "small") == 0;
     test_lines();
+    test_header();
     test_refusals();
     test_flags();
     test_null();

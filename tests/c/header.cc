@@ -21,21 +21,23 @@ int main()
     uint8_t codes[sizeof line * 4], back[sizeof codes], report[UTF8B_REPORT];
 
     same(3, utf8b_decode(line, sizeof line, codes, sizeof codes, UTF8B_LAST, report, sizeof report), "codes read");
-    same(5, report[0], "bytes consumed");
+    same(5, (long long)utf8b_consumed(report), "bytes consumed");
+    same(0x2032, utf8b_code(codes, 2), "the last code");
     same(0, std::memcmp(codes, expected, sizeof expected), "codes");
     same(5, utf8b_encode(codes, sizeof expected, back, sizeof back, 0, report, sizeof report), "bytes written");
-    same(3, report[0], "codes consumed");
+    same(3, (long long)utf8b_consumed(report), "codes consumed");
     same(0, std::memcmp(back, line, sizeof line), "bytes");
 
     same(UTF8B_BAD, utf8b_decode(line + 3, 2, codes, sizeof codes, UTF8B_STRICT, report, sizeof report), "bad");
-    same(0, report[0], "bytes consumed of bad ones");
-    same(UTF8B_REFUSED_FLAGS, utf8b_decode(line, 5, codes, 20, UTF8B_STRICT | UTF8B_SHOW, report, 8), "flags");
-    same(UTF8B_REFUSED_FLAGS, utf8b_encode(codes, 4, back, 20, UTF8B_SURRO | UTF8B_SHOW, report, 8), "flags");
+    same(0, (long long)utf8b_consumed(report), "bytes consumed of bad ones");
+    same(1, (long long)utf8b_bad_length(report), "bad length");
+    same(UTF8B_REFUSED_FLAGS, utf8b_decode(line, 5, codes, 20, UTF8B_STRICT | UTF8B_SHOW, report, UTF8B_REPORT), "flags");
+    same(UTF8B_REFUSED_FLAGS, utf8b_encode(codes, 4, back, 20, UTF8B_SURRO | UTF8B_SHOW, report, UTF8B_REPORT), "flags");
     same(UTF8B_REFUSED_REPORT, utf8b_encode(codes, 4, back, 20, 0, report, UTF8B_REPORT - 1), "report");
     same(UTF8B_REFUSED_CODES, utf8b_encode(codes, 5, back, 20, 0, report, UTF8B_REPORT), "codes");
     static uint8_t long_input[UTF8B_LIMIT + 1];
-    same(UTF8B_REFUSED_LENGTH, utf8b_decode(long_input, sizeof long_input, codes, 20, 0, report, 8), "length");
+    same(UTF8B_REFUSED_LENGTH, utf8b_decode(long_input, sizeof long_input, codes, 20, 0, report, UTF8B_REPORT), "length");
     if (differences == 0)
-        std::puts("13 answers compared, 0 differences");
+        std::puts("15 answers compared, 0 differences");
     return differences != 0;
 }

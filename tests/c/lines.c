@@ -1,6 +1,8 @@
 /* Calls with their answers written out. */
 #include "tests.h"
 
+#include "utf8b.h"
+
 #include <string.h>
 
 /* In the strings a code is four bytes, low byte first. */
@@ -13,6 +15,7 @@ struct line {
     size_t in_len;
     int64_t answer;
     uint64_t consumed;
+    uint8_t bad_length;
     const char *out;
     size_t written;
 };
@@ -20,50 +23,57 @@ struct line {
 #define BYTES(s) (s), sizeof(s) - 1
 
 static const struct line lines[] = {
-    {DECODE, 1, 64, BYTES(""), 0, 0, BYTES("")},
-    {DECODE, 0, 0, BYTES(""), 0, 0, BYTES("")},
-    {DECODE, 1, 64, BYTES("\0"), 1, 1, BYTES("\0\0\0\0")},
-    {DECODE, 1, 64, BYTES("40\xE2\x80\xB2"), 3, 5, BYTES("4\0\0\0" "0\0\0\0" "\x32\x20\0\0")},
-    {DECODE, 1, 64, BYTES("\xF4\x8F\xBF\xBF"), 1, 4, BYTES("\xFF\xFF\x10\0")},
-    {DECODE, 1, 64, BYTES("\xF4\x90\x80\x80"), 4, 4, BYTES("\xF4\xDC\0\0\x90\xDC\0\0\x80\xDC\0\0\x80\xDC\0\0")},
-    {DECODE, 1, 64, BYTES("\xC0\x80"), 2, 2, BYTES("\xC0\xDC\0\0\x80\xDC\0\0")},
-    {DECODE, 1, 64, BYTES("\xED\xA0\x80"), 3, 3, BYTES("\xED\xDC\0\0\xA0\xDC\0\0\x80\xDC\0\0")},
-    {DECODE, 3, 64, BYTES("\xED\xA0\x80"), 1, 3, BYTES("\0\xD8\0\0")},
-    {DECODE, 1, 64, BYTES("\xE2\x80"), 2, 2, BYTES("\xE2\xDC\0\0\x80\xDC\0\0")},
-    {DECODE, 0, 64, BYTES("\xE2\x80"), 0, 0, BYTES("")},
-    {DECODE, 1, 64, BYTES("\xF0\x9F\x92\xA7"), 1, 4, BYTES("\xA7\xF4\x01\0")},
-    {DECODE, 5, 64, BYTES("4\x80"), 1, 1, BYTES("4\0\0\0")},
-    {DECODE, 4, 64, BYTES("4\x80"), 1, 1, BYTES("4\0\0\0")},
-    {DECODE, 4, 64, BYTES("\x80"), -1, 0, BYTES("")},
-    {DECODE, 4, 0, BYTES("\x80"), -1, 0, BYTES("")},
-    {DECODE, 4, 0, BYTES("\xE2"), 0, 0, BYTES("")},
-    {DECODE, 5, 0, BYTES("\xE2"), -1, 0, BYTES("")},
-    {DECODE, 0, 3, BYTES("4"), 0, 0, BYTES("")},
-    {DECODE, 0, 7, BYTES("40"), 1, 1, BYTES("4\0\0\0")},
-    {DECODE, 1, 64, BYTES("\xE0\x9F\xBF"), 3, 3, BYTES("\xE0\xDC\0\0\x9F\xDC\0\0\xBF\xDC\0\0")},
-    {DECODE, 1, 64, BYTES("\xE0\xA0\x80"), 1, 3, BYTES("\0\x08\0\0")},
-    {DECODE, 1, 64, BYTES("\xF0\x8F\xBF\xBF"), 4, 4, BYTES("\xF0\xDC\0\0\x8F\xDC\0\0\xBF\xDC\0\0\xBF\xDC\0\0")},
-    {DECODE, 1, 64, BYTES("\xF0\x90\x80\x80"), 1, 4, BYTES("\0\0\x01\0")},
-    {DECODE, 1, 64, BYTES("\xED\x9F\xBF"), 1, 3, BYTES("\xFF\xD7\0\0")},
-    {DECODE, 1, 64, BYTES("\xEE\x80\x80"), 1, 3, BYTES("\0\xE0\0\0")},
-    {DECODE, 0, 64, BYTES("\xE2" "4"), 2, 2, BYTES("\xE2\xDC\0\0" "4\0\0\0")},
-    {DECODE, 0, 64, BYTES("\xF8"), 1, 1, BYTES("\xF8\xDC\0\0")},
-    {DECODE, 0, 64, BYTES("\xE1\x80\xE2\x80"), 2, 2, BYTES("\xE1\xDC\0\0\x80\xDC\0\0")},
-    {DECODE, 9, 64, BYTES("\xE2" "4"), 2, 2, BYTES("\xFD\xFF\0\0" "4\0\0\0")},
-    {DECODE, 11, 64, BYTES("\xED\xB2\x80\x80"), 2, 4, BYTES("\x80\xDC\0\0\xFD\xFF\0\0")},
-    {ENCODE, 0, 64, BYTES("\xE2\xDC\0\0\x80\xDC\0\0\xB2\xDC\0\0"), 3, 3, BYTES("\xE2\x80\xB2")},
-    {ENCODE, 0, 64, BYTES("\x32\x20\0\0"), 3, 1, BYTES("\xE2\x80\xB2")},
-    {ENCODE, 0, 2, BYTES("\x32\x20\0\0"), 0, 0, BYTES("")},
-    {ENCODE, 0, 3, BYTES("4\0\0\0\x32\x20\0\0"), 1, 1, BYTES("4")},
-    {ENCODE, 0, 64, BYTES("\0\0\x11\0"), -1, 0, BYTES("")},
-    {ENCODE, 0, 0, BYTES("\0\0\x11\0"), -1, 0, BYTES("")},
-    {ENCODE, 0, 64, BYTES("4\0\0\0\0\0\x11\0"), 1, 1, BYTES("4")},
-    {ENCODE, 0, 64, BYTES("\0\0\0\x80"), -1, 0, BYTES("")},
-    {ENCODE, 0, 64, BYTES("\0\xD8\0\0"), 3, 1, BYTES("\xED\xA0\x80")},
-    {ENCODE, 4, 64, BYTES("\0\xD8\0\0"), -1, 0, BYTES("")},
-    {ENCODE, 4, 64, BYTES("\x80\xDC\0\0"), -1, 0, BYTES("")},
-    {ENCODE, 6, 64, BYTES("\x80\xDC\0\0"), 3, 1, BYTES("\xED\xB2\x80")},
-    {ENCODE, 2, 64, BYTES("\x80\xDC\0\0"), 3, 1, BYTES("\xED\xB2\x80")},
+    {DECODE, 1, 64, BYTES(""), 0, 0, 0, BYTES("")},
+    {DECODE, 0, 0, BYTES(""), 0, 0, 0, BYTES("")},
+    {DECODE, 1, 64, BYTES("\0"), 1, 1, 0, BYTES("\0\0\0\0")},
+    {DECODE, 1, 64, BYTES("40\xE2\x80\xB2"), 3, 5, 0, BYTES("4\0\0\0" "0\0\0\0" "\x32\x20\0\0")},
+    {DECODE, 1, 64, BYTES("\xF4\x8F\xBF\xBF"), 1, 4, 0, BYTES("\xFF\xFF\x10\0")},
+    {DECODE, 1, 64, BYTES("\xF4\x90\x80\x80"), 4, 4, 0, BYTES("\xF4\xDC\0\0\x90\xDC\0\0\x80\xDC\0\0\x80\xDC\0\0")},
+    {DECODE, 1, 64, BYTES("\xC0\x80"), 2, 2, 0, BYTES("\xC0\xDC\0\0\x80\xDC\0\0")},
+    {DECODE, 1, 64, BYTES("\xED\xA0\x80"), 3, 3, 0, BYTES("\xED\xDC\0\0\xA0\xDC\0\0\x80\xDC\0\0")},
+    {DECODE, 3, 64, BYTES("\xED\xA0\x80"), 1, 3, 0, BYTES("\0\xD8\0\0")},
+    {DECODE, 1, 64, BYTES("\xE2\x80"), 2, 2, 0, BYTES("\xE2\xDC\0\0\x80\xDC\0\0")},
+    {DECODE, 0, 64, BYTES("\xE2\x80"), 0, 0, 0, BYTES("")},
+    {DECODE, 1, 64, BYTES("\xF0\x9F\x92\xA7"), 1, 4, 0, BYTES("\xA7\xF4\x01\0")},
+    {DECODE, 5, 64, BYTES("4\x80"), 1, 1, 1, BYTES("4\0\0\0")},
+    {DECODE, 4, 64, BYTES("4\x80"), 1, 1, 1, BYTES("4\0\0\0")},
+    {DECODE, 4, 64, BYTES("\x80"), -1, 0, 1, BYTES("")},
+    {DECODE, 4, 0, BYTES("\x80"), -1, 0, 1, BYTES("")},
+    {DECODE, 4, 0, BYTES("\xE2"), 0, 0, 0, BYTES("")},
+    {DECODE, 5, 0, BYTES("\xE2"), -1, 0, 1, BYTES("")},
+    {DECODE, 0, 3, BYTES("4"), 0, 0, 0, BYTES("")},
+    {DECODE, 0, 7, BYTES("40"), 1, 1, 0, BYTES("4\0\0\0")},
+    {DECODE, 1, 64, BYTES("\xE0\x9F\xBF"), 3, 3, 0, BYTES("\xE0\xDC\0\0\x9F\xDC\0\0\xBF\xDC\0\0")},
+    {DECODE, 1, 64, BYTES("\xE0\xA0\x80"), 1, 3, 0, BYTES("\0\x08\0\0")},
+    {DECODE, 1, 64, BYTES("\xF0\x8F\xBF\xBF"), 4, 4, 0, BYTES("\xF0\xDC\0\0\x8F\xDC\0\0\xBF\xDC\0\0\xBF\xDC\0\0")},
+    {DECODE, 1, 64, BYTES("\xF0\x90\x80\x80"), 1, 4, 0, BYTES("\0\0\x01\0")},
+    {DECODE, 1, 64, BYTES("\xED\x9F\xBF"), 1, 3, 0, BYTES("\xFF\xD7\0\0")},
+    {DECODE, 1, 64, BYTES("\xEE\x80\x80"), 1, 3, 0, BYTES("\0\xE0\0\0")},
+    {DECODE, 0, 64, BYTES("\xE2" "4"), 2, 2, 0, BYTES("\xE2\xDC\0\0" "4\0\0\0")},
+    {DECODE, 0, 64, BYTES("\xF8"), 1, 1, 0, BYTES("\xF8\xDC\0\0")},
+    {DECODE, 0, 64, BYTES("\xE1\x80\xE2\x80"), 2, 2, 0, BYTES("\xE1\xDC\0\0\x80\xDC\0\0")},
+    {DECODE, 9, 64, BYTES("\xE2" "4"), 2, 2, 0, BYTES("\xFD\xFF\0\0" "4\0\0\0")},
+    {DECODE, 11, 64, BYTES("\xED\xB2\x80\x80"), 2, 4, 0, BYTES("\x80\xDC\0\0\xFD\xFF\0\0")},
+    {DECODE, 5, 64, BYTES("\xE1\x80"), -1, 0, 2, BYTES("")},
+    {DECODE, 4, 64, BYTES("\xE1\x80"), 0, 0, 0, BYTES("")},
+    {DECODE, 5, 64, BYTES("A\xF0\x9F\x92"), 1, 1, 3, BYTES("A\0\0\0")},
+    {DECODE, 5, 64, BYTES("\xED\xA0" "A"), -1, 0, 1, BYTES("")},
+    {DECODE, 7, 64, BYTES("\xED\xA0" "A"), -1, 0, 2, BYTES("")},
+    {DECODE, 5, 64, BYTES("\xE2("), -1, 0, 1, BYTES("")},
+    {DECODE, 4, 4, BYTES("A\xE1\x80" "A"), 1, 1, 2, BYTES("A\0\0\0")},
+    {ENCODE, 0, 64, BYTES("\xE2\xDC\0\0\x80\xDC\0\0\xB2\xDC\0\0"), 3, 3, 0, BYTES("\xE2\x80\xB2")},
+    {ENCODE, 0, 64, BYTES("\x32\x20\0\0"), 3, 1, 0, BYTES("\xE2\x80\xB2")},
+    {ENCODE, 0, 2, BYTES("\x32\x20\0\0"), 0, 0, 0, BYTES("")},
+    {ENCODE, 0, 3, BYTES("4\0\0\0\x32\x20\0\0"), 1, 1, 0, BYTES("4")},
+    {ENCODE, 0, 64, BYTES("\0\0\x11\0"), -1, 0, 0, BYTES("")},
+    {ENCODE, 0, 0, BYTES("\0\0\x11\0"), -1, 0, 0, BYTES("")},
+    {ENCODE, 0, 64, BYTES("4\0\0\0\0\0\x11\0"), 1, 1, 0, BYTES("4")},
+    {ENCODE, 0, 64, BYTES("\0\0\0\x80"), -1, 0, 0, BYTES("")},
+    {ENCODE, 0, 64, BYTES("\0\xD8\0\0"), 3, 1, 0, BYTES("\xED\xA0\x80")},
+    {ENCODE, 4, 64, BYTES("\0\xD8\0\0"), -1, 0, 0, BYTES("")},
+    {ENCODE, 4, 64, BYTES("\x80\xDC\0\0"), -1, 0, 0, BYTES("")},
+    {ENCODE, 6, 64, BYTES("\x80\xDC\0\0"), 3, 1, 0, BYTES("\xED\xB2\x80")},
+    {ENCODE, 2, 64, BYTES("\x80\xDC\0\0"), 3, 1, 0, BYTES("\xED\xB2\x80")},
 };
 
 void test_lines(void)
@@ -71,12 +81,25 @@ void test_lines(void)
     check_begin("lines");
     for (size_t i = 0; i < sizeof lines / sizeof lines[0]; i++) {
         const struct line *l = &lines[i];
-        struct call c = {l->decode, l->flags, (const uint8_t *)l->in, l->in_len, l->out_len, 8};
+        struct call c = {l->decode, l->flags, (const uint8_t *)l->in, l->in_len, l->out_len, REPORT};
         uint8_t out[64];
-        struct outcome o = {l->answer, out, l->written, 1, l->consumed};
+        struct outcome o = {l->answer, out, l->written, 1, l->consumed, l->bad_length};
 
         memcpy(out, l->out, l->written);
         check_call(&c, &o);
         check_model(&c);
     }
+}
+
+/* The header's own functions. */
+void test_header(void)
+{
+    static const uint8_t report[REPORT] = {1, 2, 3, 4, 5, 6, 7, 0x88, 9};
+    static const uint8_t codes[] = {0x32, 0x20, 0, 0, 1, 2, 3, 0x84};
+
+    check_begin("the header");
+    check_that(UTF8B_REPORT == REPORT, "the bytes in a report");
+    check_that(utf8b_consumed(report) == 0x8807060504030201u, "the count of a report");
+    check_that(utf8b_bad_length(report) == 9, "the length in a report");
+    check_that(utf8b_code(codes, 0) == 0x2032 && utf8b_code(codes, 1) == 0x84030201u, "a code");
 }

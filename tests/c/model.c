@@ -42,6 +42,17 @@ static size_t sequence(const uint8_t *s, size_t n, uint32_t flags)
     return r->length;
 }
 
+/* The longest beginning of a sequence at the front of s, or else one byte. */
+static uint8_t maximal_subpart(const uint8_t *s, size_t n, uint32_t flags)
+{
+    uint8_t longest = 1;
+
+    for (uint8_t k = 2; k <= n && k <= 4; k++)
+        if (sequence(s, k, flags) >= k)
+            longest = k;
+    return longest;
+}
+
 static uint32_t code_of(const uint8_t *s, size_t length)
 {
     static const uint32_t offset[] = {0, 0, 0x3080, 0xE2080, 0x3C82080};
@@ -91,6 +102,7 @@ static int read_codes(const struct call *c, struct outcome *o)
             length = 0;
         if (length == 0 && (c->flags & UTF8B_STRICT)) {
             number = 3;
+            o->bad_length = maximal_subpart(s, n, c->flags);
             break;
         }
         if (made == room) {
@@ -175,7 +187,7 @@ static int flags_refused(const struct call *c)
 /* 6, 8, 7, 4, or 0 if nothing is refused. */
 static int refusal(const struct call *c)
 {
-    if (c->report_len != 8)
+    if (c->report_len != 9)
         return 6;
     if (c->in_len > 1048576 || c->out_len > 1048576)
         return 8;
@@ -190,6 +202,7 @@ void model(const struct call *c, struct outcome *o)
 
     o->written = 0;
     o->consumed = 0;
+    o->bad_length = 0;
     o->reported = !refused;
     o->answer = -refused;
     if (refused)

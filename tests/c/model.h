@@ -15,13 +15,14 @@ struct call {
     size_t report_len;
 };
 
-/* What it must leave: the answer, the first bytes of the output, and the consumed count if reported. */
+/* What it must leave: the answer, the first bytes of the output, and if reported the consumed count and the bad length. */
 struct outcome {
     int64_t answer;
     uint8_t *out;
     size_t written;
     int reported;
     uint64_t consumed;
+    uint8_t bad_length;
 };
 
 /* out must have room for out_len bytes of the call. */

@@ -20,12 +20,12 @@ static size_t in_pieces(int decode, const uint8_t *in, size_t n, uint8_t *out, u
 
     while (at < n) {
         size_t piece = (5 + below(below(10) ? 40 : 3000)) * unit, room = (4 + below(below(10) ? 40 : 3000)) * made_unit;
-        uint8_t report[8];
+        uint8_t report[REPORT];
         int64_t answer;
 
         if (piece > n - at)
             piece = n - at;
-        answer = enter(decode, in + at, piece, out + made, room, at + piece == n ? flags : flags & ~1u, report, 8);
+        answer = enter(decode, in + at, piece, out + made, room, at + piece == n ? flags : flags & ~1u, report, REPORT);
         if (answer < 0 || consumed_in(report) == 0)
             break;
         at += consumed_in(report) * unit;
@@ -39,7 +39,7 @@ static size_t in_pieces(int decode, const uint8_t *in, size_t n, uint8_t *out, u
 void test_pieces(void)
 {
     static uint8_t s[120000], codes[LIMIT], again[LIMIT], back[LIMIT];
-    uint8_t report[8];
+    uint8_t report[REPORT];
 
     check_begin("pieces");
     for (int round = 0; round < (small ? 1 : 40); round++) {
@@ -47,10 +47,10 @@ void test_pieces(void)
         static const uint32_t flags[] = {1, 9, 3, 1};
         uint32_t f = flags[round % 4];
 
-        made = (size_t)utf8b_decode(s, n, codes, LIMIT, f, report, 8) * 4;
+        made = (size_t)utf8b_decode(s, n, codes, LIMIT, f, report, REPORT) * 4;
         check_that(consumed_in(report) == n, "at once: all is consumed");
         check_that(in_pieces(DECODE, s, n, again, f) == made && memcmp(codes, again, made) == 0, "read in pieces");
-        bytes = (size_t)utf8b_encode(codes, made, back, LIMIT, 0, report, 8);
+        bytes = (size_t)utf8b_encode(codes, made, back, LIMIT, 0, report, REPORT);
         check_that(consumed_in(report) * 4 == made, "at once: all is consumed");
         check_that(in_pieces(ENCODE, codes, made, again, 0) == bytes && memcmp(back, again, bytes) == 0,
                    "written in pieces");

@@ -9,7 +9,7 @@
 /* Every order of faults: report, lengths, whole codes, flags. */
 void test_refusals(void)
 {
-    static const size_t reports[] = {0, 1, 7, 8, 9, 16, LIMIT + 8};
+    static const size_t reports[] = {0, 1, 8, 9, 10, 16, LIMIT + 8};
     static const size_t inputs[] = {0, 4, 6, LIMIT, LIMIT + 1, LIMIT + 3, LIMIT + 4};
     static const size_t outputs[] = {0, 9, LIMIT, LIMIT + 1, LIMIT + 4};
     static const uint32_t flags[] = {0, 8, 12, 0x80000000u};
@@ -47,29 +47,29 @@ void test_flags(void)
 /* A null pointer with length 0, for each buffer in turn and for all. */
 void test_null(void)
 {
-    uint8_t in[4] = {0x41, 0, 0, 0}, out[8], report[8], kept[8];
-    static const uint8_t zero[8] = {0};
+    uint8_t in[4] = {0x41, 0, 0, 0}, out[REPORT], report[REPORT], kept[REPORT];
+    static const uint8_t zero[REPORT] = {0};
 
     check_begin("null pointers");
-    memset(kept, 0xA5, 8);
+    memset(kept, 0xA5, REPORT);
     for (int decode = 0; decode < 2; decode++) {
         for (uint32_t flags = 0; flags < 8; flags++) {
-            memset(out, 0xA5, 8);
-            memset(report, 0xA5, 8);
-            check_that(enter(decode, NULL, 0, out, 8, flags, report, 8) == 0, "null input: answer 0");
-            check_that(memcmp(report, zero, 8) == 0 && memcmp(out, kept, 8) == 0, "null input: report 0, output kept");
-            memset(report, 0xA5, 8);
-            check_that(enter(decode, in, 4, NULL, 0, flags, report, 8) == 0, "null output: answer 0");
-            check_that(memcmp(report, zero, 8) == 0, "null output: report 0");
-            memset(report, 0xA5, 8);
-            check_that(enter(decode, NULL, 0, NULL, 0, flags, report, 8) == 0, "null input and output: answer 0");
-            check_that(memcmp(report, zero, 8) == 0, "null input and output: report 0");
+            memset(out, 0xA5, REPORT);
+            memset(report, 0xA5, REPORT);
+            check_that(enter(decode, NULL, 0, out, 8, flags, report, REPORT) == 0, "null input: answer 0");
+            check_that(memcmp(report, zero, REPORT) == 0 && memcmp(out, kept, REPORT) == 0, "null input: report 0, output kept");
+            memset(report, 0xA5, REPORT);
+            check_that(enter(decode, in, 4, NULL, 0, flags, report, REPORT) == 0, "null output: answer 0");
+            check_that(memcmp(report, zero, REPORT) == 0, "null output: report 0");
+            memset(report, 0xA5, REPORT);
+            check_that(enter(decode, NULL, 0, NULL, 0, flags, report, REPORT) == 0, "null input and output: answer 0");
+            check_that(memcmp(report, zero, REPORT) == 0, "null input and output: report 0");
         }
-        memset(report, 0xA5, 8);
-        check_that(enter(decode, NULL, 0, NULL, 0, 16, report, 8) == -4, "null input and output: -4");
-        check_that(memcmp(report, kept, 8) == 0, "null input and output: report kept after -4");
+        memset(report, 0xA5, REPORT);
+        check_that(enter(decode, NULL, 0, NULL, 0, 16, report, REPORT) == -4, "null input and output: -4");
+        check_that(memcmp(report, kept, REPORT) == 0, "null input and output: report kept after -4");
         check_that(enter(decode, in, 4, out, 8, 0, NULL, 0) == -6, "null report: -6");
-        check_that(memcmp(out, kept, 8) == 0, "null report: output kept");
+        check_that(memcmp(out, kept, REPORT) == 0, "null report: output kept");
         check_that(enter(decode, NULL, 0, NULL, 0, 0, NULL, 0) == -6, "all null: -6");
     }
 }
@@ -102,7 +102,7 @@ void test_limits(void)
 void test_huge_lengths(void)
 {
     size_t huge = ((size_t)1 << 32) + 8;
-    uint8_t *m, in[8] = {0}, out[8], report[8];
+    uint8_t *m, in[8] = {0}, out[8], report[REPORT];
 
     check_begin("huge lengths");
     m = mmap(NULL, huge, PROT_READ | PROT_WRITE, MAP_PRIVATE | MAP_ANONYMOUS | MAP_NORESERVE, -1, 0);
@@ -111,8 +111,8 @@ void test_huge_lengths(void)
         return;
     }
     for (int decode = 0; decode < 2; decode++) {
-        check_that(enter(decode, m, huge, out, 8, 0, report, 8) == -8, "huge input: -8");
-        check_that(enter(decode, in, 8, m, huge, 0, report, 8) == -8, "huge output: -8");
+        check_that(enter(decode, m, huge, out, 8, 0, report, REPORT) == -8, "huge input: -8");
+        check_that(enter(decode, in, 8, m, huge, 0, report, REPORT) == -8, "huge output: -8");
         check_that(enter(decode, in, 8, out, 8, 0, m, huge) == -6, "huge report: -6");
     }
     munmap(m, huge);

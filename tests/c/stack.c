@@ -14,7 +14,7 @@ static size_t stack_used;
 
 static void on_own_stack(int signal)
 {
-    static uint8_t in[4096], out[4096], report[8];
+    static uint8_t in[4096], out[4096], report[REPORT];
     uint8_t here = (uint8_t)signal;
     size_t free_below = (size_t)(&here - stack) - 512, i = 0;
 

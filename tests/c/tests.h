@@ -25,6 +25,7 @@ size_t damaged_text(uint8_t *s, size_t n);
 void try_call(int decode, const uint8_t *in, size_t in_len, size_t out_len, uint32_t flags);
 
 void test_lines(void);
+void test_header(void);
 void test_refusals(void);
 void test_flags(void);
 void test_null(void);

@@ -65,7 +65,7 @@ class Library:
     def __init__(self, path):
         library = ctypes.CDLL(path)
         self.out = ctypes.create_string_buffer(self.ROOM)
-        self.report = ctypes.create_string_buffer(8)
+        self.report = ctypes.create_string_buffer(9)
         self.reader = self.entry(library.utf8b_decode)
         self.writer = self.entry(library.utf8b_encode)
 
@@ -77,10 +77,10 @@ class Library:
         return function
 
     def call(self, entry, data, flags, item):
-        """The answer, the consumed count, and the output as bytes."""
-        answer = entry(data, len(data), self.out, self.ROOM, flags, self.report, 8)
+        """The answer, the consumed count, the length of the bad stretch, and the output as bytes."""
+        answer = entry(data, len(data), self.out, self.ROOM, flags, self.report, 9)
         made = ctypes.string_at(self.out, answer * item) if answer > 0 else b''
-        return answer, int.from_bytes(self.report.raw, 'little'), made
+        return answer, int.from_bytes(self.report.raw[:8], 'little'), self.report.raw[8], made
 
     def read(self, data, flags):
         return self.call(self.reader, data, flags, 4)
@@ -125,15 +125,26 @@ def answer_of(items, bad):
     return -1 if bad and items == 0 else items
 
 
+def surrogate_begins(data):
+    """ED A0..BF, which CPython's 'surrogatepass' takes for bad after ED unless the third byte is there: with SURRO it begins a sequence."""
+    return data[:1] == b'\xED' and 0xA0 <= (data + b'\0')[1] <= 0xBF
+
+
+def bad_length(error, flags):
+    if flags & SURRO and surrogate_begins(error.object[error.start:]):
+        return 2
+    return error.end - error.start
+
+
 def read_by_peer(data, flags):
     errors = READER_ERRORS[flags & ~LAST]
     try:
         text, consumed = codecs.utf_8_decode(data, errors, bool(flags & LAST))
-        bad = False
+        length = 0
     except UnicodeDecodeError as error:
         text, consumed = codecs.utf_8_decode(data[:error.start], errors, True)
-        bad = True
-    return answer_of(len(text), bad), consumed, wide(text)
+        length = bad_length(error, flags)
+    return answer_of(len(text), length > 0), consumed, length, wide(text)
 
 
 def kept_back(data, flags):
@@ -177,7 +188,7 @@ def write_by_peer(codes, flags):
         text = text[:error.start]
         made = text.encode('utf-8', writer_errors(flags))
         bad = True
-    return answer_of(len(made), bad), len(text), made
+    return answer_of(len(made), bad), len(text), 0, made
 
 
 def compare_write(library, codes, flags):
@@ -245,12 +256,12 @@ def read_in_pieces(library, data, flags):
         at += len(piece)
         rest += piece
         ends = at == len(data)
-        answer, used, made = library.read(rest, flags if ends else flags & ~LAST)
+        answer, used, length, made = library.read(rest, flags if ends else flags & ~LAST)
         codes += made
         consumed += used
         rest = rest[used:]
-        if ends or answer < 0 or len(rest) > 3:
-            return answer_of(len(codes) // 4, answer < 0), consumed, codes
+        if ends or length > 0:
+            return answer_of(len(codes) // 4, answer < 0), consumed, length, codes
 
 
 def compare_pieces(library):
@@ -307,6 +318,7 @@ class Run:
         self.record = START
         self.made = b''
         self.bad = None
+        self.length = None
         self.over = False
 
 
@@ -316,25 +328,26 @@ def steps_on(run):
 
 
 def steps_take(run, fields):
-    answer, _, unit, consumed, held, run.record = fields
+    answer, _, unit, consumed, held, length, run.record = fields
     run.at += int(consumed)
     if unit != '-':
         run.made += int(unit, 16).to_bytes(2, 'little')
     if answer not in ('unit', 'null', 'continuation', 'incomplete'):
         run.bad = run.at - int(held) if answer == 'bad' else answer
+    run.length = None if length == '-' else int(length)
     pending = run.record.startswith('03')
     run.over = run.bad is not None or (run.at == len(run.source) and not pending)
 
 
 def steps_expected(data):
-    """The units, the first bad place, and the state after the last byte."""
+    """The units, the first bad place, the length of the bad stretch, and the state after the last byte."""
     try:
         text, consumed = codecs.utf_8_decode(data, 'strict', False)
-        bad, rest = None, data[consumed:]
+        bad, length, rest = None, None, data[consumed:]
     except UnicodeDecodeError as error:
-        text, bad, rest = data[:error.start].decode(), error.start, b''
+        text, bad, length, rest = data[:error.start].decode(), error.start, error.end - error.start, b''
     record = bytes([1, len(rest)]) + rest if rest else b''
-    return text.encode('utf-16-le'), bad, record.ljust(16, b'\0').hex().upper()
+    return text.encode('utf-16-le'), bad, length, record.ljust(16, b'\0').hex().upper()
 
 
 def back_on(run):
@@ -361,7 +374,7 @@ def back_expected(units):
     except UnicodeDecodeError as error:
         text, bad, rest = units[:error.start].decode('utf-16-le'), error.start, b''
     record = b'\4\2' + rest if rest else b''
-    return text.encode(), bad, record.ljust(16, b'\0').hex().upper()
+    return text.encode(), bad, None, record.ljust(16, b'\0').hex().upper()
 
 
 def compare_runs(probe, sources, on, take, expected):
@@ -371,15 +384,15 @@ def compare_runs(probe, sources, on, take, expected):
         if not live:
             break
         for run, fields in zip(live, ask(probe, [on(run) for run in live])):
-            if len(fields) == 6:
+            try:
                 take(run, fields)
-            else:
+            except ValueError:
                 run.bad, run.over = ' '.join(fields), True
         live = [run for run in live if not run.over]
     for run in live:
         run.bad = 'no end'
     for run in runs:
-        compare(expected(run.source), (run.made, run.bad, run.record), 'run of steps over', run.source)
+        compare(expected(run.source), (run.made, run.bad, run.length, run.record), 'run of steps over', run.source)
 
 
 def random_units():

@@ -136,6 +136,19 @@ static size_t convert(int width, uint32_t *unit, const char *s, size_t n, mbstat
     return result;
 }
 
+/* How many bytes glibc holds before the first that it finds bad, or 1 if that is the first. */
+static size_t bad_length(const uint8_t *s, size_t n)
+{
+    mbstate_t state;
+    wchar_t code;
+    size_t held = 0;
+
+    memset(&state, 0, sizeof state);
+    while (held < n && mbrtowc(&code, (const char *)s + held, 1, &state) == (size_t)-2)
+        held++;
+    return held ? held : 1;
+}
+
 /* One call of glibc's: the command for probe, and all that the answer must say before the record. */
 static void step(struct run *r)
 {
@@ -148,19 +161,19 @@ static void step(struct run *r)
     sprintf(r->command, "step%d %s %s", r->width, r->record, hex);
     result = convert(r->width, &unit, (const char *)s, n, &r->glibc);
     if (result == (size_t)-1) {
-        sprintf(r->expected, "bad 3 - 0 %zu ", r->held);
+        sprintf(r->expected, "bad 3 - 0 %zu %zu ", r->held, bad_length(s - r->held, r->len - r->at + r->held));
         r->over = 1;
     } else if (result == (size_t)-2) {
-        sprintf(r->expected, "incomplete 2 - %zu - ", n);
+        sprintf(r->expected, "incomplete 2 - %zu - - ", n);
         r->at += n;
         r->held += n;
         r->over = n == 0;
     } else if (result == (size_t)-3) {
-        sprintf(r->expected, "continuation 0 %X 0 - ", (unsigned)unit);
+        sprintf(r->expected, "continuation 0 %X 0 - - ", (unsigned)unit);
     } else {
         size_t used = result ? result : 1;
 
-        sprintf(r->expected, "%s 0 %X %zu - ", result ? "unit" : "null", (unsigned)unit, used);
+        sprintf(r->expected, "%s 0 %X %zu - - ", result ? "unit" : "null", (unsigned)unit, used);
         r->at += used;
         r->held = 0;
     }

@@ -29,12 +29,20 @@ extern "C" {
     fn utf8b_encode(codes: *const u8, n: usize, dst: *mut u8, room: usize, flags: u32, report: *mut u8, len: usize) -> i64;
 }
 
-/// What an entry left: the answer, the consumed count, the items produced.
+/// What an entry left: the answer, the consumed count, the length of the bad stretch, the items produced.
 #[derive(PartialEq, Debug)]
 struct Left<T> {
     answer: i64,
     consumed: u64,
+    bad_length: u8,
     items: Vec<T>,
+}
+
+const REPORT: usize = 9;
+
+fn left<T>(answer: i64, report: [u8; REPORT], items: Vec<T>) -> Left<T> {
+    let (count, length) = report.split_at(8);
+    Left { answer, consumed: u64::from_le_bytes(count.try_into().unwrap()), bad_length: length[0], items }
 }
 
 fn answer_of(items: usize, bad: bool) -> i64 {
@@ -43,39 +51,39 @@ fn answer_of(items: usize, bad: bool) -> i64 {
 
 fn read(data: &[u8], flags: u32) -> Left<u32> {
     let mut codes = vec![0xA5; data.len() * 4 + 3];
-    let mut report = [0xA5; 8];
+    let mut report = [0xA5; REPORT];
     let answer = unsafe {
-        utf8b_decode(data.as_ptr(), data.len(), codes.as_mut_ptr(), codes.len(), flags, report.as_mut_ptr(), 8)
+        utf8b_decode(data.as_ptr(), data.len(), codes.as_mut_ptr(), codes.len(), flags, report.as_mut_ptr(), REPORT)
     };
     codes.truncate(answer.max(0) as usize * 4);
     let items = codes.chunks_exact(4).map(|c| u32::from_le_bytes(c.try_into().unwrap())).collect();
-    Left { answer, consumed: u64::from_le_bytes(report), items }
+    left(answer, report, items)
 }
 
 fn write(codes: &[u32], flags: u32) -> Left<u8> {
     let packed: Vec<u8> = codes.iter().flat_map(|code| code.to_le_bytes()).collect();
     let mut items = vec![0xA5; packed.len()];
-    let mut report = [0xA5; 8];
+    let mut report = [0xA5; REPORT];
     let answer = unsafe {
-        utf8b_encode(packed.as_ptr(), packed.len(), items.as_mut_ptr(), items.len(), flags, report.as_mut_ptr(), 8)
+        utf8b_encode(packed.as_ptr(), packed.len(), items.as_mut_ptr(), items.len(), flags, report.as_mut_ptr(), REPORT)
     };
     items.truncate(answer.max(0) as usize);
-    Left { answer, consumed: u64::from_le_bytes(report), items }
+    left(answer, report, items)
 }
 
 fn codes_of(text: &str) -> Vec<u32> {
     text.chars().map(u32::from).collect()
 }
 
-/// STRICT, by from_utf8: no error_len is a partial sequence, which waits unless LAST is given.
+/// STRICT, by from_utf8: no error_len is a partial sequence, which waits unless LAST is given, and is then bad as a whole.
 fn read_strictly_by_peer(data: &[u8], flags: u32) -> (Left<u32>, u32) {
-    let (valid, number) = match from_utf8(data) {
-        Ok(_) => (data.len(), 0),
-        Err(e) if e.error_len().is_none() && flags & LAST == 0 => (e.valid_up_to(), 2),
-        Err(e) => (e.valid_up_to(), 3),
+    let (valid, number, bad_length) = match from_utf8(data) {
+        Ok(_) => (data.len(), 0, 0),
+        Err(e) if e.error_len().is_none() && flags & LAST == 0 => (e.valid_up_to(), 2, 0),
+        Err(e) => (e.valid_up_to(), 3, e.error_len().unwrap_or(data.len() - e.valid_up_to()) as u8),
     };
     let items = codes_of(from_utf8(&data[..valid]).unwrap());
-    (Left { answer: answer_of(items.len(), number == 3), consumed: valid as u64, items }, number)
+    (Left { answer: answer_of(items.len(), number == 3), consumed: valid as u64, bad_length, items }, number)
 }
 
 fn is_partial(bytes: &[u8]) -> bool {
@@ -96,7 +104,7 @@ fn read_loosely_by_peer(data: &[u8], flags: u32) -> (Left<u32>, u32) {
         items.extend(invalid.iter().map(|&b| if flags & SHOW != 0 { 0xFFFD } else { 0xDC00 + u32::from(b) }));
         consumed += invalid.len() as u64;
     }
-    (Left { answer: items.len() as i64, consumed, items }, number)
+    (Left { answer: items.len() as i64, consumed, bad_length: 0, items }, number)
 }
 
 fn read_by_peer(data: &[u8], flags: u32) -> (Left<u32>, u32) {
@@ -328,6 +336,11 @@ fn list(codes: &[u32]) -> String {
     codes.iter().map(|code| format!("{code:X}")).collect::<Vec<_>>().join(",")
 }
 
+/// A length, or none.
+fn length(n: u8) -> String {
+    if n == 0 { "-".to_string() } else { n.to_string() }
+}
+
 /// The bytes that a code came from; an escape is one byte.
 fn length_of(code: u32) -> u64 {
     char::from_u32(code).map_or(1, |c| c.len_utf8() as u64)
@@ -339,6 +352,7 @@ fn with_room((mut left, number): (Left<u32>, u32), room: usize) -> (Left<u32>, u
         return (left, number);
     }
     left.items.truncate(room);
+    left.bad_length = 0;
     left.consumed = left.items.iter().map(|&code| length_of(code)).sum();
     (left, 1)
 }
@@ -349,7 +363,7 @@ fn compare_numbers(tally: &mut Tally, probe: &str) {
         for flags in READER_FLAGS {
             let room = if flags & SHOW != 0 { data.len() } else { i % (data.len() + 1) };
             let (left, number) = with_room(read_by_peer(data, flags), room);
-            let expected = format!("{number} {} {}", left.consumed, list(&left.items));
+            let expected = format!("{number} {} {} {}", left.consumed, list(&left.items), length(left.bad_length));
             batch.add(format!("read {flags} {room} {}", hex(data)), expected);
         }
     }
@@ -396,16 +410,19 @@ fn first_unit(c: char, width: u32) -> (u32, String) {
 fn step_by_peer(data: &[u8], held: usize, width: u32) -> String {
     for length in held + 1..=data.len() {
         match from_utf8(&data[..length]) {
-            Ok("\0") => return format!("null 0 0 1 - {START}"),
+            Ok("\0") => return format!("null 0 0 1 - - {START}"),
             Ok(text) => {
                 let (unit, next) = first_unit(text.chars().next().unwrap(), width);
-                return format!("unit 0 {unit:X} {} - {next}", length - held);
+                return format!("unit 0 {unit:X} {} - - {next}", length - held);
             }
-            Err(e) if e.error_len().is_some() => return format!("bad 3 - 0 {held} {START}"),
-            Err(_) => (),
+            Err(e) => {
+                if let Some(bad_length) = e.error_len() {
+                    return format!("bad 3 - 0 {held} {bad_length} {START}");
+                }
+            }
         }
     }
-    format!("incomplete 2 - {} - {}", data.len() - held, record(1, data))
+    format!("incomplete 2 - {} - - {}", data.len() - held, record(1, data))
 }
 
 /// Every string from the starting state, and from the state that holds its beginning.
@@ -438,12 +455,12 @@ fn compare_units(tally: &mut Tally, probe: &str, random: &mut Random) {
         }
         let mut pending = &text.as_bytes()[1..];
         while let [first, others @ ..] = pending {
-            let expected = format!("continuation 0 {first:X} 0 - {}", record(2, others));
+            let expected = format!("continuation 0 {first:X} 0 - - {}", record(2, others));
             batch.add(format!("step8 {} 4141", record(2, pending)), expected);
             pending = others;
         }
         if let Some(low) = text.encode_utf16().nth(1) {
-            batch.add(format!("step16 {} -", record(3, &low.to_le_bytes())), format!("continuation 0 {low:X} 0 - {START}"));
+            batch.add(format!("step16 {} -", record(3, &low.to_le_bytes())), format!("continuation 0 {low:X} 0 - - {START}"));
         }
     }
     batch.compare(tally, probe);

@@ -2,7 +2,7 @@
 use mathlib.Core.Path.{_≡_, refl, sym, ap, ap₂, _∙_}
 use mathlib.Core.Logic.{_⊎_, inl, inr, ⊎-elim}
 use mathlib.Core.List.{List, [], _∷_, _++_, append-assoc}
-use Prim.Native.Nat.{ℕ, zero, suc, _+_, _-_, _≤_, _<_}
+use Prim.Native.Nat.{ℕ, zero, suc, _+_, _-_, _≤_, _<_, max}
 use native.Mathlib.Omega.{arith}
 use native.Mathlib.Decide.{decLe}
 use borrow.Author.Tests.{eq-eqb, ne-eqb}
@@ -16,7 +16,7 @@ use Rattle.units.specs.Width.{Width}
 use Rattle.state.specs.declared.Record.{Record}
 use Rattle.advance.specs.declared.Answer.the-variants.{Incomplete, Bad, Null}
 use Rattle.advance.specs.declared.Reading.the-variants.{Done, Code}
-use Rattle.advance.specs.Step.{incomplete, bad-sequence, tell, to, hold, convert, reads, step}
+use Rattle.advance.specs.Step.{incomplete, tell, tell-bad, to, hold, convert, reads, step}
 use Rattle.advance.specs.Advance.{Says, used, Holding, taken}
 
 -- ---- the state while bytes are held
@@ -132,8 +132,8 @@ module _ {F : Form} (S : Scans F 4) where
     pub reads-some : scan F (used s ++ i) ≡ part → (n + m ≡ 0 → ⊥) → Says F s i (Done Incomplete) (record { kind = 1; count = n + m; bytes = paste d n i m })
     reads-some e h W = by W part e ∙ ap (λ (t : Record). record { answer = tell incomplete 2 0 (length i) 0; next = t }) (held-state e h)
 
-    pub reads-bad : (k : ℕ) → scan F (used s ++ i) ≡ bad k → Says F s i (Done (Bad n)) (recordOf starting)
-    reads-bad k e W = by W (bad k) e ∙ ap (λ (h : ℕ). to (tell bad-sequence 3 0 0 h) starting) held-length
+    pub reads-bad : (k : ℕ) → scan F (used s ++ i) ≡ bad k → Says F s i (Done (Bad n (max 1 k))) (recordOf starting)
+    reads-bad k e W = by W (bad k) e ∙ ap (λ (h : ℕ). to (tell-bad h (max 1 k)) starting) held-length
 
     pub reads-null : (c k : ℕ) → scan F (used s ++ i) ≡ well c k → c ≡ 0 → Says F s i (Done Null) (recordOf starting)
     reads-null c k e z W = by W (well c k) e ∙ rw (eq-eqb c 0 z) refl

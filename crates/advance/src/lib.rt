@@ -17,8 +17,8 @@ pub enum Answer {
     Continuation(u32),
     // The input ends before a sequence is complete. All of it is consumed.
     Incomplete,
-    // How many bytes had been held. Nothing is consumed.
-    Bad(u8),
+    // How many bytes had been held, and the length of the maximal subpart, those bytes counted in. Nothing is consumed.
+    Bad(u8, u8),
     // Code 0. One byte is consumed.
     Null,
     // The first unit of a code, and the bytes consumed.
@@ -107,7 +107,7 @@ fn read(form: Form, s: Record, input: &[u8]) -> Advanced
             };
             done(Answer::Incomplete, next)
         }
-        Front::Bad(_) => done(Answer::Bad(s.count), state::start()),
+        Front::Bad(len) => done(Answer::Bad(s.count, len as u8), state::start()),
         Front::Well(c, m) => {
             if c == 0 {
                 return done(Answer::Null, state::start());

@@ -21,6 +21,7 @@ use Rattle.form.proofs.Utf8.{plain-sound}
 -- each scalar value has one sequence, no other number has any, and the longest has n bytes
 pub record EncodingForm (F : Form) (n : ℕ) : Type 0 where
   pub scans : Scans F n
+  pub long : 1 < n
   -- no bytes are the beginning of every sequence
   pub nil : scan F [] ≡ part
   pub most : (w : List ℕ) (c : ℕ) → Codes F w c → length w ≤ n
@@ -55,7 +56,7 @@ low-codes (row k (lo to hi ∷ []) ∷ F) c t u h =
     inl (((omega arith, omega (arith, leb→le 0x7F hi b)), tt), omega arith)
 low-codes (row k (lo to hi ∷ r ∷ rs) ∷ F) c t u h = absurd t
 
-module _ (F : Form) (runs : List ℕ) (n : ℕ) (S : Sound F runs) (a : T (at-most n F)) where
+module _ (F : Form) (runs : List ℕ) (n : ℕ) (S : Sound F runs) (a : T (at-most n F)) (l : 1 < n) where
   only : (w : List ℕ) (c : ℕ) → Codes F w c → sequence F c ≡ w
   only w c h = ap (λ (G : Form). sequence G c) (sym (append-nil F)) ∙ codes-sequence F [] 0 w c (S .is-ascending) h
 
@@ -63,6 +64,7 @@ module _ (F : Form) (runs : List ℕ) (n : ℕ) (S : Sound F runs) (a : T (at-mo
   encoding-form =
       record {
         scans = scans F n (S .regular) a (S .is-low);
+        long = l;
         nil = scan-nil F (S .regular .is-some) (S .regular .is-open);
         most = λ w c. codes-length n F w c a;
         few = λ c. sequence-few n F c a;
@@ -97,4 +99,4 @@ later-in r (row k (q ∷ rs) ∷ F) b w c t h =
 
 pub plain-form : EncodingForm plain 4
 unfolding plain
-plain-form = encoding-form plain plain-runs 4 plain-sound tt
+plain-form = encoding-form plain plain-runs 4 plain-sound tt (omega arith)

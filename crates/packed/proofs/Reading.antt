@@ -44,7 +44,7 @@ pub record Stretched (f : ℕ) (s d₀ d : List ℕ) (at n : ℕ) (q : Decoded) 
   pub room : n + q .produced ≤ length d₀ / 4
   pub same : length d ≡ length d₀
   pub ends : (q .number ≡ 1 → ⊥) ⊎ (n + q .produced ≡ length d₀ / 4)
-      → (record { number = q .number; consumed = at + q .consumed; produced = n + q .produced } ≡ decodedOf (decoding f (length d₀ / 4) s))
+      → (record { number = q .number; consumed = at + q .consumed; produced = n + q .produced; subpart = q .subpart } ≡ decodedOf (decoding f (length d₀ / 4) s))
       × (d ≡ over (laid (decoding f (length d₀ / 4) s .codes)) d₀)
   pub goes-on : q .number ≡ 1 → (n + q .produced ≡ length d₀ / 4 → ⊥) → Reads f s d₀ d (at + q .consumed) (n + q .produced) × (n < n + q .produced)
 
@@ -93,7 +93,7 @@ module _ (f : ℕ) (s d₀ d : List ℕ) (at n : ℕ) (r : Reads f s d₀ d at n
     place = omega (arith, within f a (drop at s) .0, length-drop at s, r .place)
 
     ends : (R .number ≡ 1 → ⊥) ⊎ (n + length (R .codes) ≡ length d₀ / 4)
-        → (record { number = R .number; consumed = at + R .consumed; produced = n + length (R .codes) } ≡ decodedOf (decoding f (length d₀ / 4) s))
+        → (record { number = R .number; consumed = at + R .consumed; produced = n + length (R .codes); subpart = R .subpart } ≡ decodedOf (decoding f (length d₀ / 4) s))
         × (d′ ≡ over (laid (decoding f (length d₀ / 4) s .codes)) d₀)
     unfolding decodedOf D.follow
     ends h = rw (r .rest ∙ ap (D.follow (r .codes) at) (whole h)) (rw count refl, filled .front)

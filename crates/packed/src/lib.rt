@@ -93,6 +93,7 @@ pub fn decode_packed(src: &[u8], codes: &mut [u8], flags: u32) -> Decoded
                 number: r.number,
                 consumed: at,
                 produced: n,
+                subpart: r.subpart,
             };
         }
         if n == room {
@@ -100,6 +101,7 @@ pub fn decode_packed(src: &[u8], codes: &mut [u8], flags: u32) -> Decoded
                 number: r.number,
                 consumed: at,
                 produced: n,
+                subpart: r.subpart,
             };
         }
     }

@@ -369,10 +369,21 @@ fn bytes_beyond(bytes: &[u8], k: usize, room: usize) -> bool {
     false
 }
 
+// The length of a maximal subpart, after a space; - for none.
+fn put_length(n: usize) {
+    say(b" ");
+    if n == 0 {
+        say(b"-");
+        return;
+    }
+    put_decimal(n);
+}
+
 // What the reader gave.
-fn put_read(produced: usize, codes: &[u32], room: usize) {
+fn put_read(produced: usize, codes: &[u32], room: usize, subpart: usize) {
     let k = within_codes(produced, codes);
     put_codes(&codes[..k]);
+    put_length(subpart);
     if codes_beyond(codes, k, room) {
         say(b" beyond");
     }
@@ -389,7 +400,7 @@ fn read(s: &[u8]) {
     let m = bytes_of(word(s, b' ', 3), &mut bytes);
     let r = read_in(&mut codes, room_of(s), &bytes[..m], flags_of(s));
     put_counts(r.number as usize, r.consumed);
-    put_read(r.produced, &codes, room_of(s));
+    put_read(r.produced, &codes, room_of(s), r.subpart);
 }
 
 fn rest_in<'a>(
@@ -399,9 +410,10 @@ fn rest_in<'a>(
     flags: u32,
     number: &mut u8,
     produced: &mut usize,
+    subpart: &mut usize,
 ) -> &'a [u8] {
     let n = within_codes(room, codes);
-    rest::decode_rest(bytes, &mut codes[..n], flags, number, produced)
+    rest::decode_rest(bytes, &mut codes[..n], flags, number, produced, subpart)
 }
 
 fn rest(s: &[u8]) {
@@ -409,6 +421,7 @@ fn rest(s: &[u8]) {
     let mut codes = code_buffer();
     let mut number: u8 = 0xEE;
     let mut produced: usize = MISS;
+    let mut subpart: usize = MISS;
     let m = bytes_of(word(s, b' ', 3), &mut bytes);
     let left = rest_in(
         &mut codes,
@@ -417,10 +430,11 @@ fn rest(s: &[u8]) {
         flags_of(s),
         &mut number,
         &mut produced,
+        &mut subpart,
     );
     put_decimal(number as usize);
     say(b" ");
-    put_read(produced, &codes, room_of(s));
+    put_read(produced, &codes, room_of(s), subpart);
     say(b" ");
     put_bytes(left);
 }
@@ -458,33 +472,47 @@ fn stepped(width: usize, state: State, input: &[u8]) -> Stepped {
     }
 }
 
-// How an answer is told: its name, the unit that came out, if one did, what was consumed, and how many had been held, or MISS.
+// How an answer is told: its name, the unit that came out, if one did, what was consumed, how many had been held, or MISS, and the length of the
+// maximal subpart, or 0.
 struct Told {
     name: usize,
     unit: u32,
     given: bool,
     consumed: usize,
     held: usize,
+    subpart: usize,
 }
 
-fn tell(name: usize, unit: u32, given: bool, consumed: usize, held: usize) -> Told {
+fn tell(name: usize, unit: u32, given: bool, consumed: usize) -> Told {
     Told {
         name,
         unit,
         given,
         consumed,
-        held,
+        held: MISS,
+        subpart: 0,
+    }
+}
+
+fn tell_bad(held: u8, subpart: u8) -> Told {
+    Told {
+        name: 3,
+        unit: 0,
+        given: false,
+        consumed: 0,
+        held: held as usize,
+        subpart: subpart as usize,
     }
 }
 
 fn told_of(answer: Answer, len: usize) -> Told {
     match answer {
-        Answer::Refused => tell(0, 0, false, 0, MISS),
-        Answer::Continuation(u) => tell(1, u, true, 0, MISS),
-        Answer::Incomplete => tell(2, 0, false, len, MISS),
-        Answer::Bad(h) => tell(3, 0, false, 0, h as usize),
-        Answer::Null => tell(4, 0, true, 1, MISS),
-        Answer::Unit(u, n) => tell(5, u, true, n, MISS),
+        Answer::Refused => tell(0, 0, false, 0),
+        Answer::Continuation(u) => tell(1, u, true, 0),
+        Answer::Incomplete => tell(2, 0, false, len),
+        Answer::Bad(held, subpart) => tell_bad(held, subpart),
+        Answer::Null => tell(4, 0, true, 1),
+        Answer::Unit(u, n) => tell(5, u, true, n),
     }
 }
 
@@ -495,16 +523,16 @@ fn put_name(name: usize) {
     say(word(names, b'\n', name));
 }
 
-// A count, what was held, or `-`, and the next state.
-fn put_next(count: usize, held: usize, next: State) {
+// A count, and what was held, or `-`.
+fn put_held(count: usize, held: usize) {
     say(b" ");
+    put_decimal(count);
     if held == MISS {
-        put_decimal(count);
-        say(b" - ");
-    } else {
-        put_counts(count, held);
+        say(b" -");
+        return;
     }
-    put_state(next);
+    say(b" ");
+    put_decimal(held);
 }
 
 fn step(width: usize, s: &[u8]) {
@@ -520,16 +548,19 @@ fn step(width: usize, s: &[u8]) {
     } else {
         say(b"-");
     }
-    put_next(t.consumed, t.held, next);
+    put_held(t.consumed, t.held);
+    put_length(t.subpart);
+    say(b" ");
+    put_state(next);
 }
 
 // The name of a step back's answer, and what was held, or MISS.
 fn told_back(answer: Back) -> Told {
     match answer {
-        Back::Refused => tell(0, 0, false, 0, MISS),
-        Back::Held => tell(6, 0, false, 0, MISS),
-        Back::Bytes => tell(7, 0, false, 0, MISS),
-        Back::Bad(h) => tell(3, 0, false, 0, h as usize),
+        Back::Refused => tell(0, 0, false, 0),
+        Back::Held => tell(6, 0, false, 0),
+        Back::Bytes => tell(7, 0, false, 0),
+        Back::Bad(held) => tell_bad(held, 0),
     }
 }
 
@@ -546,7 +577,9 @@ fn back(s: &[u8]) {
     let t = told_back(answer);
     put_name(t.name);
     put_four(bytes);
-    put_next(r.count, t.held, next);
+    put_held(r.count, t.held);
+    say(b" ");
+    put_state(next);
 }
 
 fn reset(s: &[u8]) {
@@ -725,7 +758,7 @@ fn answer_all(chunk: &mut [u8], line: &mut [u8]) {
 fn help() {
     io::write_all(
         STDOUT_FILENO,
-        b"usage: probe, or probe --help\n\nTries one call a line. A command and what it answers:\n\n    read FLAGS ROOM BYTES             number consumed codes\n    rest FLAGS ROOM BYTES             number codes bytes (the reader's companion)\n    write FLAGS ROOM CODES            number consumed bytes\n    step8|step16|step32 RECORD BYTES  answer number unit consumed held record\n    back RECORD UNIT                  answer number bytes count held record\n    reset RECORD                      number record\n    start RECORD                      yes or no\n\nFLAGS and ROOM are decimal, ROOM up to 65536. BYTES is hexadecimal pairs, CODES\nhexadecimal numbers with commas, - is none; RECORD is 16 bytes, UNIT one number.\nA line begun by # is its own answer; one that cannot be read gets error: and why.\nAn answer ends in beyond where the call changed more than it gave.\n",
+        b"usage: probe, or probe --help\n\nTries one call a line. A command and what it answers:\n\n    read FLAGS ROOM BYTES             number consumed codes length\n    rest FLAGS ROOM BYTES             number codes length bytes (the reader's companion)\n    write FLAGS ROOM CODES            number consumed bytes\n    step8|step16|step32 RECORD BYTES  answer number unit consumed held length record\n    back RECORD UNIT                  answer number bytes count held record\n    reset RECORD                      number record\n    start RECORD                      yes or no\n\nFLAGS and ROOM are decimal, ROOM up to 65536. BYTES is hexadecimal pairs, CODES\nhexadecimal numbers with commas, - is none; RECORD is 16 bytes, UNIT one number.\nAfter a bad sequence held is how many bytes had been held, and length that of the\nmaximal subpart; - is none. A line begun by # is its own answer; one that cannot\nbe read gets error: and why. An answer ends in beyond where the call changed more\nthan it gave.\n",
     );
 }
 

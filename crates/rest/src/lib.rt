@@ -12,15 +12,18 @@ pub fn decode_rest<'a>(
     flags: u32,
     number: &mut u8,
     produced: &mut usize,
+    subpart: &mut usize,
 ) -> &'a [u8]
     ensures rest { λ r. ⌜ RestOf (s .entry) (decoding flags (length (now (codes .entry))) (now (s .entry)) .consumed) r ⌝ }
     ensures stop { λ _. ⌜ now (number .exit) ≡ decoding flags (length (now (codes .entry))) (now (s .entry)) .number ⌝ }
     ensures count { λ _. ⌜ now (produced .exit) ≡ length (decoding flags (length (now (codes .entry))) (now (s .entry)) .codes) ⌝ }
+    ensures bad { λ _. ⌜ now (subpart .exit) ≡ decoding flags (length (now (codes .entry))) (now (s .entry)) .subpart ⌝ }
     ensures output { λ _. ⌜ now (codes .exit) ≡ decoding flags (length (now (codes .entry))) (now (s .entry)) .codes ++ drop (now (produced .exit)) (now (codes .entry)) ⌝ }
 {
     let r = decode::decode(s, codes, flags);
     *number = r.number;
     *produced = r.produced;
+    *subpart = r.subpart;
     let at = r.consumed;
     &s[at..]
 }

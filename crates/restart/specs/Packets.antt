@@ -27,7 +27,15 @@ held-later unit h n = h
 abbrev pub later : ℕ → Step → Step
 later n x =
     record {
-      answer = tell (x .answer .name) (x .answer .number) (x .answer .unit) (x .answer .consumed - n) (held-later (x .answer .name) (x .answer .held) n);
+      answer =
+          record {
+            name = x .answer .name;
+            number = x .answer .number;
+            unit = x .answer .unit;
+            consumed = x .answer .consumed - n;
+            held = held-later (x .answer .name) (x .answer .held) n;
+            subpart = x .answer .subpart;
+          };
       next = x .next;
     }
 

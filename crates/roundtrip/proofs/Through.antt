@@ -26,12 +26,12 @@ narrow (c ∷ l) h = (omega (arith, h .0), narrow l (h .1))
 few : (s : List ℕ) → length (read plain s) ≤ length s
 few s = rw (reads-all (length s) s (omega arith)) at (within 1 (length s) s .1)
 
-read-in : (s d r : List ℕ) → Buffer (length s * 4) d → length r ≡ 8 → Gives (decode-entry s d 1 r) (length (read plain s)) (laid (read plain s)) d (length s)
+read-in : (s d r : List ℕ) → Buffer (length s * 4) d → length r ≡ 9 → Gives (decode-entry s d 1 r) (length (read plain s)) (laid (read plain s)) d (length s)
 unfolding given
 read-in s d r h e =
     rw (← decode-given s d r 1 e (omega (arith, h .0, h .1)) (h .1)) (rw (reads-all (length d / 4) s (omega (arith, h .0))) (refl, refl, refl))
 
-written-out : (s e q : List ℕ) → Bytes s → length s * 4 ≤ 1048576 → Buffer (length s) e → length q ≡ 8
+written-out : (s e q : List ℕ) → Bytes s → length s * 4 ≤ 1048576 → Buffer (length s) e → length q ≡ 9
     → Gives (encode-entry (laid (read plain s)) e 0 q) (length s) s e (length (read plain s))
 unfolding given
 written-out s e q b m h k =

@@ -1,6 +1,6 @@
 -- What a C entry answers and leaves in its buffers ("The C side"). Assumes nothing.
 use mathlib.Core.Bool.{Bool, _&&_, cond}
-use mathlib.Core.List.{List}
+use mathlib.Core.List.{List, [], _∷_, _++_}
 use Prim.Native.Nat.{ℕ, _/_, _%_}
 use lib.Dec.{eqb, leb}
 use lib.IntN.{ℤ, pos, negℤ}
@@ -27,14 +27,14 @@ refused q output report = entry (negℤ (pos q)) output report
 abbrev pub answerOf : ℕ → ℕ → ℤ
 answerOf q items = cond (eqb q 3 && eqb items 0) (negℤ (pos 1)) (pos items)
 
--- what a call with this number, these counts and these bytes gives
-unfoldable pub given : ℕ → ℕ → ℕ → List ℕ → List ℕ → List ℕ → Entry
-given q consumed items bytes output report =
-    cond (eqb q 4) (refused 4 output report) (entry (answerOf q items) (over bytes output) (low-first 8 consumed))
+-- what a call with this number, these counts, this length of a maximal subpart and these bytes gives
+unfoldable pub given : ℕ → ℕ → ℕ → ℕ → List ℕ → List ℕ → List ℕ → Entry
+given q consumed items subpart bytes output report =
+    cond (eqb q 4) (refused 4 output report) (entry (answerOf q items) (over bytes output) (low-first 8 consumed ++ (subpart ∷ [])))
 
--- a report has 8 bytes
+-- a report has 9 bytes: 8 for the count, and 1 for the length
 abbrev pub is-report : List ℕ → Bool
-is-report r = eqb (length r) 8
+is-report r = eqb (length r) 9
 
 -- a buffer has at most 1,048,576 bytes
 abbrev pub in-limit : List ℕ → Bool
@@ -45,7 +45,7 @@ unfoldable pub decode-entry : List ℕ → List ℕ → ℕ → List ℕ → Ent
 decode-entry src codes flags report =
     let R = decoding flags (length codes / 4) src in
     cond (is-report report)
-    (cond (in-limit src && in-limit codes) (given (R .number) (R .consumed) (length (R .codes)) (laid (R .codes)) codes report) (refused 8 codes report))
+    (cond (in-limit src && in-limit codes) (given (R .number) (R .consumed) (length (R .codes)) (R .subpart) (laid (R .codes)) codes report) (refused 8 codes report))
     (refused 6 codes report)
 
 -- in this order: 6, 8, 7, 4
@@ -54,6 +54,6 @@ encode-entry codes dst flags report =
     let W = encoding flags (length dst) (codesOf codes) in
     cond (is-report report)
     (cond (in-limit codes && in-limit dst)
-    (cond (eqb (length codes % 4) 0) (given (W .number) (W .consumed) (length (W .written)) (W .written) dst report) (refused 7 dst report))
+    (cond (eqb (length codes % 4) 0) (given (W .number) (W .consumed) (length (W .written)) 0 (W .written) dst report) (refused 7 dst report))
     (refused 8 dst report))
     (refused 6 dst report)

@@ -1,13 +1,16 @@
 // The entries for C.
 ghost use mathlib.Core.Path.{_≡_};
+ghost use mathlib.Core.List.{[], _∷_, _++_};
 ghost use Prim.Native.Nat.{_≤_};
+ghost use lib.ListN.{length};
+ghost use Rattle.numbers.specs.Number.{low-first};
 ghost use Rattle.utf8b.specs.Entry.{entry, answerOf, decode-entry, encode-entry};
 
 // The most bytes in an input or an output.
 const LIMIT: usize = 1048576;
 
 // The bytes in a report.
-const REPORT: usize = 8;
+const REPORT: usize = 9;
 
 // The items, or -1 for number 3 with none.
 fn answer(number: u8, items: usize) -> i64
@@ -21,6 +24,15 @@ fn answer(number: u8, items: usize) -> i64
         return -1;
     }
     items as i64
+}
+
+// The report: the count, and after it the length of the maximal subpart.
+fn put_report(consumed: usize, subpart: u8, report: &mut [u8])
+    requires { ⌜ length (now report) ≡ 9 ⌝ }
+    ensures { λ _. ⌜ now (report .exit) ≡ low-first 8 consumed ++ (subpart ∷ []) ⌝ }
+{
+    numbers::put(consumed, report);
+    report[8] = subpart;
 }
 
 // The reader. Refusals in document 01's order: 6, 8, 4.
@@ -41,7 +53,8 @@ pub extern "C" fn utf8b_decode(src: &[u8], codes: &mut [u8], flags: u32, report:
     if r.number == 4 {
         return -4;
     }
-    numbers::put(r.consumed, report);
+    let subpart = r.subpart as u8;
+    put_report(r.consumed, subpart, report);
     answer(r.number, r.produced)
 }
 
@@ -66,6 +79,6 @@ pub extern "C" fn utf8b_encode(codes: &[u8], dst: &mut [u8], flags: u32, report:
     if r.number == 4 {
         return -4;
     }
-    numbers::put(r.consumed, report);
+    put_report(r.consumed, 0, report);
     answer(r.number, r.produced)
 }

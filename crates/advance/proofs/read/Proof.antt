@@ -8,6 +8,7 @@ use lib.ListN.{length, take}
 use lib.Seq.{length-take-le}
 use Rattle.form.specs.Scan.{Found, scan}
 use Rattle.front.specs.declared.Front.{Front}
+use Rattle.front.specs.declared.Front.the-variants as Variants
 use Rattle.classify.specs.Lead.{rowsOf}
 use Rattle.classify.proofs.Forms.{form-scans}
 use Rattle.front.proofs.Told.{Finds, told-finds}
@@ -78,8 +79,8 @@ returns-2 c =
     is-read s _ _ (c .done4 .ensures ∙ ap (with-next (Done Null)) (c .before .start3 .ensures))
     (reads-null (form-scans (s .args .form)) (places s) (s .pre) (input s) _ _ (finds q _ (c .before .before .before .before .c .given .1)) (c .before .before .if2 .taken))
 
-sub-t27 : tie.Need-sub-t27
-sub-t27 c =
+sub-t29 : tie.Need-sub-t29
+sub-t29 c =
     let q = c .before .before .before .before in
     let s = start (gathered q) in
     omega (arith, code-after (form-scans (s .args .form)) (places s) (s .pre) (input s) _ _ (finds q _ (c .before .before .c .given .1)))
@@ -92,12 +93,21 @@ returns-3 c =
     is-read s _ _ (c .done2 .ensures ∙ ap (λ (w : Window). with-next (Done Incomplete) (record { kind = 1; count = w .count; bytes = w .bytes })) (g .gather .ensures))
     (reads-some (form-scans (s .args .form)) (places s) (s .pre) (input s) (finds q _ (c .before .before .enum-told .given .1)) (λ e. c .before .if1 .left (count g ∙ e)))
 
+-- the subpart lies within the window
+subpart-few : (q : tie.After-front-of) (n : ℕ) → q .front-of .result ≡ Variants.Bad n → n ≤ 4
+subpart-few q n e =
+    let g = gathered q in
+    let (m, f, i) = subst (λ (x : Front). Finds x (shown g)) e (told-finds (q .front-of .result) (shown g) _ (q .front-of .ensures)) in
+    let l = form-scans (start g .args .form) .finds-bad (take (g .gather .result .count) (g .gather .result .bytes)) m .0 f .1 .inside in
+    omega (arith, i, l, length-take-le (g .gather .result .count) (g .gather .result .bytes) (omega (arith, filled g, count-few g)), count-few g)
+
 returns-4 : tie.Need-returns-4
 returns-4 c =
-    let q = c .before .before .before .before in
+    let q = c .before .before .before .before .before in
     let s = start (gathered q) in
-    is-read s _ _ (c .done3 .ensures ∙ ap (with-next (Done (Bad (s .args .s .count)))) (c .before .start2 .ensures))
-    (let (k, e) = finds q _ (c .before .before .enum-told2 .given .1) in reads-bad (form-scans (s .args .form)) (places s) (s .pre) (input s) k e)
+    let (k, e, i) = finds q _ (c .before .before .before .len .given .1) in
+    is-read s _ _ (c .done3 .ensures ∙ ap (with-next (Done (Bad (s .args .s .count) _))) (c .before .start2 .ensures))
+    (rw i (reads-bad (form-scans (s .args .form)) (places s) (s .pre) (input s) k e))
 
 returns-5 : tie.Need-returns-5
 returns-5 c =
@@ -122,13 +132,14 @@ read-spec =
     (λ c. omega (arith, count-few (gathered (c .before .before .before))))
     (λ c κs. search needs)
     (λ c. search needs)
+    (λ c. omega (arith, subpart-few (c .before .before .before) _ (c .before .len .given .1)))
     (λ c κs. search needs)
     (λ c κs. search needs)
     (λ c. search needs)
     (λ c κs. search needs)
     (λ c κs. search needs)
     returns-2
-    sub-t27
+    sub-t29
     (λ c κs. search needs)
     returns-3
     returns-4

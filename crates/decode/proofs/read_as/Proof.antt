@@ -1,9 +1,11 @@
 -- The outer loop has read up to a place, and the inner loop walks the stages from there. Assumes nothing.
-use mathlib.Core.Path.{_≡_, sym, _∙_}
+use mathlib.Core.Path.{_≡_, refl, sym, _∙_}
 use mathlib.Core.Logic.{⊎-elim}
+use mathlib.Core.Bool.{cond}
 use mathlib.Core.List.{List}
-use Prim.Native.Nat.{ℕ, _+_, _-_, _<_}
+use Prim.Native.Nat.{ℕ, _+_, _-_, _<_, max}
 use native.Mathlib.Omega.{arith}
+use lib.Dec.{eqb}
 use lib.ListN.{length, take, drop}
 use borrow.Author.Needs.{needs, scaled-fits}
 use Rattle.flags.specs.declared.Flags.{Flags}
@@ -16,16 +18,16 @@ use Rattle.decode.proofs.read_as.Statement.{statement}
 use Rattle.decode.proofs.read_as.Tie as tie
 
 abbrev Inv-bytes : tie.InvT-bytes
-Inv-bytes form m s codes at n stage₀ end₀ stage end = Walking form s at end stage
+Inv-bytes form m s codes at n k stage₀ end₀ stage end = Walking form s at end stage
 
 abbrev μ-bytes : tie.MeasureT-bytes
-μ-bytes form m s codes at n stage₀ end₀ stage end = length s - end
+μ-bytes form m s codes at n k stage₀ end₀ stage end = length s - end
 
 abbrev Inv-places : tie.InvT-places
-Inv-places form m s codes₀ at₀ n₀ codes at n = Reached (rowsOf form) m s codes₀ codes at n
+Inv-places form m s codes₀ at₀ n₀ k₀ codes at n k = Reached (rowsOf form) m s codes₀ codes at n × (k ≡ 0)
 
 abbrev μ-places : tie.MeasureT-places
-μ-places form m s codes₀ at₀ n₀ codes at n = length codes₀ - n
+μ-places form m s codes₀ at₀ n₀ k₀ codes at n k = length codes₀ - n
 
 -- ---- at a place of the outer loop
 
@@ -42,7 +44,7 @@ abbrev form : tie.At-places Inv-bytes μ-bytes Inv-places μ-places → Form
 form p = start p .args .form
 
 room-left : (p : tie.At-places Inv-bytes μ-bytes Inv-places μ-places) → (p .places .n ≡ length (p .places .codes) → ⊥) → p .places .n < length (start p .args .codes .now)
-room-left p h = omega (arith, p .places .inv .room, p .places .inv .same)
+room-left p h = omega (arith, p .places .inv .0 .room, p .places .inv .0 .same)
 
 -- ---- where the inner loop has ended
 
@@ -64,6 +66,7 @@ whole c =
 
 none : (c : tie.Else5 Inv-bytes μ-bytes Inv-places μ-places)
     → NoneAt (form (place (c .before .before))) (mode (place (c .before .before))) (bytes (place (c .before .before))) (place (c .before .before) .places .at)
+    (cond (eqb (c .before .before .bytes .stage) 0) (max 1 (size (c .before .before) - 1)) (size (c .before .before)))
 none c =
     let b = c .before .before in
     ⊎-elim
@@ -71,15 +74,21 @@ none c =
     (λ w. none-partial (b .bytes .inv) (mode (place b)) (w .0 .left) (w .1 .taken) (w .2 .taken))
     (c .before .if2 .came)
 
+-- by the length that the code has
+none-by : (u : tie.After-subpart-by Inv-bytes μ-bytes Inv-places μ-places)
+    → NoneAt (form (place (u .before .before .before))) (mode (place (u .before .before .before))) (bytes (place (u .before .before .before))) (place (u .before .before .before) .places .at)
+    (u .subpart-by .result)
+none-by u = rw (u .subpart-by .ensures) (none (u .before))
+
 -- ---- the turns
 
 places-holds : tie.Need-places-holds Inv-bytes μ-bytes Inv-places μ-places
-places-holds c = reached-start _ _ _ _
+places-holds c = (reached-start _ _ _ _, refl)
 
 bytes-holds : tie.Need-bytes-holds Inv-bytes μ-bytes Inv-places μ-places
 bytes-holds c =
     let p = c .before .before .before in
-    walk-begun (form p) (bytes p) (p .places .at) (c .first .result) (omega (arith, p .places .inv .place))
+    walk-begun (form p) (bytes p) (p .places .at) (c .first .result) (omega (arith, p .places .inv .0 .place))
     (omega (arith, c .before .shared-slice-known2 .given (p .places .at)))
     (c .first .ensures)
 
@@ -93,44 +102,48 @@ places-again c =
     let b = c .before .before .before .before .before in
     let p = place b in
     let e : p .places .at + size b ≡ b .bytes .end = omega (arith, b .bytes .inv .begins) in
-    let r = reached-next (p .places .inv) _ (size b) (whole (c .before .before .before)) (omega (arith, e, b .bytes .inv .within)) (room-left p (c .before .before .if6 .left)) in
-    rw (c .code-of .ensures) (rw e at r)
+    let r = reached-next (p .places .inv .0) _ (size b) (whole (c .before .before .before)) (omega (arith, e, b .bytes .inv .within)) (room-left p (c .before .before .if6 .left)) in
+    (rw (c .code-of .ensures) (rw e at r), p .places .inv .1)
 
 places-again-2 : tie.Need-places-again-2 Inv-bytes μ-bytes Inv-places μ-places
 places-again-2 c =
-    let b = c .before .before .before .before .before .before in
-    let p = place b in
-    rw (c .stray .ensures)
-    (reached-next (p .places .inv) _ 1 (none-lax (none (c .before .before .before .before)) (c .before .before .before .if7 .left))
-    (omega (arith, b .bytes .inv .begins, b .bytes .inv .within))
-    (room-left p (c .before .before .if8 .left)))
+    let u = c .before .before .before .before in
+    let b = u .before .before .before in
+    let p = place b in (
+      rw (c .stray .ensures)
+          (reached-next (p .places .inv .0) _ 1 (none-lax (none-by u) (c .before .before .before .if7 .left))
+          (omega (arith, b .bytes .inv .begins, b .bytes .inv .within))
+          (room-left p (c .before .before .if8 .left))),
+      p .places .inv .1,
+    )
 
 -- ---- the stops
 
 returns : tie.Need-returns Inv-bytes μ-bytes Inv-places μ-places
-returns c = let p = c .before in ends-used-up (p .places .inv) (c .if1 .taken)
+returns c = let p = c .before in rw (p .places .inv .1) (ends-used-up (p .places .inv .0) (c .if1 .taken))
 
 returns-2 : tie.Need-returns-2 Inv-bytes μ-bytes Inv-places μ-places
 returns-2 c =
     let b = c .before .before .before in
     let p = place b in
-    ends-stop (p .places .inv) 2 0 (turn-waits (b .bytes .inv) (mode p) (c .before .before .if2 .left) (c .before .if3 .taken) (c .if4 .left))
+    rw (p .places .inv .1) (ends-stop (p .places .inv .0) 2 0 (turn-waits (b .bytes .inv) (mode p) (c .before .before .if2 .left) (c .before .if3 .taken) (c .if4 .left)))
 
 returns-3 : tie.Need-returns-3 Inv-bytes μ-bytes Inv-places μ-places
 returns-3 c =
     let p = place (c .before .before .before) in
-    ends-full (p .places .inv) _ _ (whole (c .before)) (c .if6 .taken ∙ p .places .inv .same)
+    rw (p .places .inv .1) (ends-full (p .places .inv .0) _ _ (whole (c .before)) (c .if6 .taken ∙ p .places .inv .0 .same))
 
 returns-4 : tie.Need-returns-4 Inv-bytes μ-bytes Inv-places μ-places
 returns-4 c =
-    let p = place (c .before .before .before) in
-    let (k, e) = none-strict (none (c .before)) (c .if7 .taken) in
-    ends-stop (p .places .inv) 3 k e
+    let u = c .before in
+    let p = place (u .before .before .before) in
+    ends-stop (p .places .inv .0) 3 (u .subpart-by .result) (none-strict (none-by u) (c .if7 .taken))
 
 returns-5 : tie.Need-returns-5 Inv-bytes μ-bytes Inv-places μ-places
 returns-5 c =
-    let p = place (c .before .before .before .before) in
-    ends-full (p .places .inv) _ _ (none-lax (none (c .before .before)) (c .before .if7 .left)) (c .if8 .taken ∙ p .places .inv .same)
+    let u = c .before .before in
+    let p = place (u .before .before .before) in
+    rw (p .places .inv .1) (ends-full (p .places .inv .0) _ _ (none-lax (none-by u) (c .before .if7 .left)) (c .if8 .taken ∙ p .places .inv .0 .same))
 
 pub read-as-spec : {M : Type 1} → statement M
 read-as-spec =
@@ -141,9 +154,9 @@ read-as-spec =
     Inv-places
     μ-places
     places-holds
-    (λ c. omega (arith, c .before .before .places .inv .place))
+    (λ c. omega (arith, c .before .before .places .inv .0 .place))
     (λ c κs. search needs)
-    (λ c. omega (arith, c .before .before .before .places .inv .place))
+    (λ c. omega (arith, c .before .before .before .places .inv .0 .place))
     bytes-holds
     (λ c. omega (arith, c .before .before .before .bytes .inv .within))
     (λ c κs. search needs)
@@ -155,25 +168,27 @@ read-as-spec =
     (λ c. c .before .before .before .bytes .inv .within)
     (λ c κs. search needs)
     (λ c. let p = place (c .before .before .before .before .before) in scaled-fits (p .places .n) (length (start p .args .codes .now)) 4 (room-left p (c .before .before .if6 .left)) (start p .good .1 .1 .1 .0 .1))
-    (λ c. let p = place (c .before .before .before .before .before) in omega (arith, p .places .inv .same, room-left p (c .before .before .if6 .left)))
+    (λ c. let p = place (c .before .before .before .before .before) in omega (arith, p .places .inv .0 .same, room-left p (c .before .before .if6 .left)))
     (λ c. let p = place (c .before .before .before .before .before) in omega (arith, room-left p (c .before .before .if6 .left)))
     (λ c. let p = place (c .before .before .before .before .before) in omega (arith, room-left p (c .before .before .if6 .left)))
     places-again
-    (λ c. let b = c .before .before .before .before .before in omega (arith, b .bytes .inv .begins, b .bytes .inv .within))
+    (λ c. let b = c .before .before in omega (arith, b .bytes .inv .begins))
     (λ c κs. search needs)
-    (λ c. let p = place (c .before .before .before .before .before .before) in scaled-fits (p .places .n) (length (start p .args .codes .now)) 4 (room-left p (c .before .before .if8 .left)) (start p .good .1 .1 .1 .0 .1))
-    (λ c. let p = place (c .before .before .before .before .before .before) in omega (arith, p .places .inv .same, room-left p (c .before .before .if8 .left)))
-    (λ c. let p = place (c .before .before .before .before .before .before) in omega (arith, room-left p (c .before .before .if8 .left)))
     (λ c. let b = c .before .before .before .before .before .before in omega (arith, b .bytes .inv .begins, b .bytes .inv .within))
-    (λ c. let p = place (c .before .before .before .before .before .before) in omega (arith, room-left p (c .before .before .if8 .left)))
+    (λ c κs. search needs)
+    (λ c. let p = place (c .before .before .before .before .before .before .before) in scaled-fits (p .places .n) (length (start p .args .codes .now)) 4 (room-left p (c .before .before .if8 .left)) (start p .good .1 .1 .1 .0 .1))
+    (λ c. let p = place (c .before .before .before .before .before .before .before) in omega (arith, p .places .inv .0 .same, room-left p (c .before .before .if8 .left)))
+    (λ c. let p = place (c .before .before .before .before .before .before .before) in omega (arith, room-left p (c .before .before .if8 .left)))
+    (λ c. let b = c .before .before .before .before .before .before .before in omega (arith, b .bytes .inv .begins, b .bytes .inv .within))
+    (λ c. let p = place (c .before .before .before .before .before .before .before) in omega (arith, room-left p (c .before .before .if8 .left)))
     places-again-2
-    (λ c. c .before .places .inv .same)
+    (λ c. c .before .places .inv .0 .same)
     returns
-    (λ c. place (c .before .before .before) .places .inv .same)
+    (λ c. place (c .before .before .before) .places .inv .0 .same)
     returns-2
-    (λ c. place (c .before .before .before) .places .inv .same)
+    (λ c. place (c .before .before .before) .places .inv .0 .same)
     returns-3
-    (λ c. place (c .before .before .before) .places .inv .same)
+    (λ c. place (c .before .before .before .before) .places .inv .0 .same)
     returns-4
-    (λ c. place (c .before .before .before .before) .places .inv .same)
+    (λ c. place (c .before .before .before .before .before) .places .inv .0 .same)
     returns-5)

@@ -25,7 +25,7 @@ returns c =
     let k = d .decode .result .consumed in
     let e = d .decode .ensures .0 in
     let h = ap (λ (r : Decoded). r .consumed) e in
-    (record { bytes = part-to-end (s .now) k ∙ ap (λ (i : ℕ). drop i (s .now)) h; block = refl; offset = omega (arith, h) }, (ap (λ (r : Decoded). r .number) e, (ap (λ (r : Decoded). r .produced) e, d .decode .ensures .1)))
+    (record { bytes = part-to-end (s .now) k ∙ ap (λ (i : ℕ). drop i (s .now)) h; block = refl; offset = omega (arith, h) }, (ap (λ (r : Decoded). r .number) e, (ap (λ (r : Decoded). r .produced) e, (ap (λ (r : Decoded). r .subpart) e, d .decode .ensures .1))))
 
 pub decode-rest-spec : {M : Type 1} → statement M
 decode-rest-spec =

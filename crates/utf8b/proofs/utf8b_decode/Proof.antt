@@ -1,7 +1,7 @@
 -- Each refusal by its test, and otherwise what the call gives. Assumes nothing.
 use mathlib.Core.Path.{_≡_, sym, ap, subst, _∙_}
-use mathlib.Core.List.{[]}
-use Prim.Native.Nat.{ℕ, _/_, _≤_}
+use mathlib.Core.List.{[], _∷_, _++_}
+use Prim.Native.Nat.{_/_, _≤_, _<_}
 use native.Mathlib.Omega.{arith}
 use mir.Syntax.{w64}
 use mir.ValLaws.{toZ-ofZ}
@@ -11,7 +11,7 @@ use borrow.Author.Tests.{eq-eqb, ne-eqb, le-leb, lt-leb}
 use Rattle.decode.specs.declared.Decoded.{Decoded}
 use Rattle.decode.specs.Reading.{Reading, stopped, decoding, decodedOf}
 use Rattle.decode.proofs.Readings.{refused-nothing}
-use Rattle.decode.proofs.Theorems.{refused-exactly, within}
+use Rattle.decode.proofs.Theorems.{refused-exactly, within, subpart-few}
 use Rattle.numbers.specs.Number.{low-first}
 use Rattle.packed.specs.Bytes.{laid}
 use Rattle.utf8b.specs.Entry.{answerOf, given, decode-entry}
@@ -38,7 +38,7 @@ module _ (c : tie.After-decode-packed) where
   abbrev R : Reading
   R = decoding (start .args .flags) (length (start .args .codes .now) / 4) (start .args .src .now)
 
-  gives : given (R .number) (R .consumed) (length (R .codes)) (laid (R .codes)) (start .args .codes .now) (start .args .report .now)
+  gives : given (R .number) (R .consumed) (length (R .codes)) (R .subpart) (laid (R .codes)) (start .args .codes .now) (start .args .report .now)
       ≡ decode-entry (start .args .src .now) (start .args .codes .now) (start .args .flags) (start .args .report .now)
   gives = decode-given (start .args .src .now) (start .args .codes .now) (start .args .report .now) (start .args .flags) (c .before .before .before .before .if1 .left) (c .before .before .before .if2 .left) (c .before .before .if3 .left)
 
@@ -54,15 +54,18 @@ module _ (c : tie.After-decode-packed) where
   unfolding decodedOf
   few = rw (c .decode-packed .ensures .0) (omega (arith, within (start .args .flags) (length (start .args .codes .now) / 4) (start .args .src .now) .1, c .before .before .if3 .left))
 
+  short : c .decode-packed .result .subpart < 256
+  unfolding decodedOf
+  short = rw (c .decode-packed .ensures .0) (omega (arith, subpart-few (start .args .flags) (length (start .args .codes .now) / 4) (start .args .src .now)))
+
 returns-5 : tie.Need-returns-5
 unfolding decodedOf
 returns-5 c =
     let t = c .before .before .before in
-    let d = t .before .before .before .before .before .before in
-    let count = t .put .ensures ∙ ap (λ (k : ℕ). low-first k (d .decode-packed .result .consumed)) (d .before .before .before .before .if1 .left) in
-    let told = subst (λ (x : Decoded). (c .answer .result ≡ answerOf (x .number) (x .produced)) × (t .put .last .1 .0 ≡ low-first 8 (x .consumed))) (d .decode-packed .ensures .0) (c .answer .ensures, count) in
+    let d = t .before .before .before .before .before .before .before in
+    let told = subst (λ (x : Decoded). (c .answer .result ≡ answerOf (x .number) (x .produced)) × (t .put-report .last .1 .1 .0 ≡ low-first 8 (x .consumed) ++ (x .subpart ∷ []))) (d .decode-packed .ensures .0) (c .answer .ensures, t .put-report .ensures) in
     simp (toZ-ofZ w64 (c .answer .result) (sfits-of (c .answer .ok)))
-    (tells _ _ _ _ _ _ _ _ _ (λ e. t .before .before .if4 .left (sym (number d) ∙ e)) (d .decode-packed .ensures .1) told ∙ gives d)
+    (tells _ _ _ _ _ _ _ _ _ _ (λ e. t .before .before .before .if4 .left (sym (number d) ∙ e)) (d .decode-packed .ensures .1) told ∙ gives d)
 
 pub utf8b-decode-spec : {M : Type 1} → statement M
 utf8b-decode-spec =
@@ -73,9 +76,10 @@ utf8b-decode-spec =
     returns-3
     (λ c κs. search needs)
     (λ c. search needs)
-    (λ c. let d = c .before .before .before .before in let e = number d ∙ c .if4 .taken in refuses _ _ _ _ _ _ _ e (none d e) (d .decode-packed .ensures .1) ∙ gives d)
+    (λ c. let d = c .before .before .before .before in let e = number d ∙ c .if4 .taken in refuses _ _ _ _ _ _ _ _ e (none d e) (d .decode-packed .ensures .1) ∙ gives d)
+    (λ c. omega (arith, short (c .before .before .before .before .before)))
     (λ c κs. search needs)
-    (λ c κs. few (c .before .before .before .before .before .before .before .before))
+    (λ c κs. few (c .before .before .before .before .before .before .before .before .before))
     (λ c. search needs)
     (λ c. search needs)
     returns-5)

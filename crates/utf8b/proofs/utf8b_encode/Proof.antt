@@ -1,6 +1,7 @@
 -- Each refusal by its test, and otherwise what the call gives. Assumes nothing.
 use mathlib.Core.Path.{_≡_, sym, ap, subst, _∙_}
-use Prim.Native.Nat.{ℕ, _≤_}
+use mathlib.Core.List.{[], _∷_, _++_}
+use Prim.Native.Nat.{_≤_}
 use native.Mathlib.Omega.{arith}
 use mir.Syntax.{w64}
 use mir.ValLaws.{toZ-ofZ}
@@ -40,7 +41,7 @@ module _ (c : tie.After-encode-packed) where
   abbrev W : Writing
   W = encoding (start .args .flags) (length (start .args .dst .now)) (codesOf (start .args .codes .now))
 
-  gives : given (W .number) (W .consumed) (length (W .written)) (W .written) (start .args .dst .now) (start .args .report .now)
+  gives : given (W .number) (W .consumed) (length (W .written)) 0 (W .written) (start .args .dst .now) (start .args .report .now)
       ≡ encode-entry (start .args .codes .now) (start .args .dst .now) (start .args .flags) (start .args .report .now)
   gives = encode-given (start .args .codes .now) (start .args .dst .now) (start .args .report .now) (start .args .flags) (c .before .before .before .before .before .if1 .left) (c .before .before .before .before .if2 .left) (c .before .before .before .if3 .left) (c .before .before .if4 .left)
 
@@ -57,10 +58,9 @@ unfolding encodedOf
 returns-6 c =
     let t = c .before .before .before in
     let d = t .before .before .before .before .before .before in
-    let count = t .put .ensures ∙ ap (λ (k : ℕ). low-first k (d .encode-packed .result .consumed)) (d .before .before .before .before .before .if1 .left) in
-    let told = subst (λ (x : Encoded). (c .answer .result ≡ answerOf (x .number) (x .produced)) × (t .put .last .1 .0 ≡ low-first 8 (x .consumed))) (d .encode-packed .ensures .0) (c .answer .ensures, count) in
+    let told = subst (λ (x : Encoded). (c .answer .result ≡ answerOf (x .number) (x .produced)) × (t .put-report .last .1 .1 .0 ≡ low-first 8 (x .consumed) ++ (0 ∷ []))) (d .encode-packed .ensures .0) (c .answer .ensures, t .put-report .ensures) in
     simp (toZ-ofZ w64 (c .answer .result) (sfits-of (c .answer .ok)))
-    (tells _ _ _ _ _ _ _ _ _ (λ e. t .before .before .if5 .left (sym (number d) ∙ e)) (d .encode-packed .ensures .1) told ∙ gives d)
+    (tells _ _ _ _ _ _ _ _ _ _ (λ e. t .before .before .if5 .left (sym (number d) ∙ e)) (d .encode-packed .ensures .1) told ∙ gives d)
 
 pub utf8b-encode-spec : {M : Type 1} → statement M
 utf8b-encode-spec =
@@ -72,7 +72,7 @@ utf8b-encode-spec =
     returns-4
     (λ c κs. search needs)
     (λ c. search needs)
-    (λ c. let d = c .before .before .before .before in let e = number d ∙ c .if5 .taken in refuses _ _ _ _ _ _ _ e (refused-nothing _ _ _ e .1) (d .encode-packed .ensures .1) ∙ gives d)
+    (λ c. let d = c .before .before .before .before in let e = number d ∙ c .if5 .taken in refuses _ _ _ _ _ _ _ _ e (refused-nothing _ _ _ e .1) (d .encode-packed .ensures .1) ∙ gives d)
     (λ c κs. search needs)
     (λ c κs. few (c .before .before .before .before .before .before .before .before))
     (λ c. search needs)

@@ -1,0 +1,21 @@
+/* Tells where a line is bad, and how long each bad stretch is. */
+#include <stdio.h>
+#include <utf8b.h>
+
+int main(void)
+{
+    static const uint8_t line[] = {0x34, 0x30, 0xE2, 0x80, 0x20, 0xF8, 0x35, 0xF0, 0x9F, 0x92};
+    uint8_t codes[4 * sizeof line], report[UTF8B_REPORT];
+    size_t at = 0;
+
+    while (at < sizeof line) {
+        if (utf8b_decode(line + at, sizeof line - at, codes, sizeof codes, UTF8B_LAST | UTF8B_STRICT, report,
+                         sizeof report) < UTF8B_BAD)
+            return 1;
+        at += utf8b_consumed(report);
+        if (utf8b_bad_length(report) > 0)
+            printf("bad from byte %u on: %u\n", (unsigned)at, (unsigned)utf8b_bad_length(report));
+        at += utf8b_bad_length(report);
+    }
+    return 0;
+}
