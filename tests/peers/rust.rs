@@ -224,7 +224,7 @@ fn compare_reads(tally: &mut Tally, random: &mut Random) {
 
 /// The unread rest goes before the next piece; only the last piece has LAST.
 fn read_in_pieces(random: &mut Random, data: &[u8], flags: u32) -> Left<u32> {
-    let (mut at, mut rest, mut all) = (0, vec![], Left { answer: 0, consumed: 0, items: vec![] });
+    let (mut at, mut rest, mut all) = (0, vec![], Left { answer: 0, consumed: 0, bad_length: 0, items: vec![] });
     loop {
         let most = random.pick(&[100, 100, 100, 4000]);
         let end = data.len().min(at + random.below(most));
@@ -234,7 +234,8 @@ fn read_in_pieces(random: &mut Random, data: &[u8], flags: u32) -> Left<u32> {
         all.items.extend(left.items);
         all.consumed += left.consumed;
         rest.drain(..left.consumed as usize);
-        if at == data.len() || left.answer < 0 || rest.len() > 3 {
+        if at == data.len() || left.bad_length > 0 {
+            all.bad_length = left.bad_length;
             all.answer = answer_of(all.items.len(), left.answer < 0);
             return all;
         }
@@ -263,7 +264,8 @@ fn compare_writes(tally: &mut Tally, random: &mut Random) {
     texts.extend(every.chunks(1000).map(|chunk| chunk.iter().collect::<String>()));
     for text in &texts {
         let codes = codes_of(text);
-        let expected = Left { answer: text.len() as i64, consumed: codes.len() as u64, items: text.as_bytes().to_vec() };
+        let (answer, consumed) = (text.len() as i64, codes.len() as u64);
+        let expected = Left { answer, consumed, bad_length: 0, items: text.as_bytes().to_vec() };
         for flags in 0..8 {
             tally.compare(&expected, &write(&codes, flags), || format!("write, flags {flags}, codes {codes:X?}"));
         }

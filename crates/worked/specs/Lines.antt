@@ -1,4 +1,4 @@
--- "Lines checked by hand": the rows marked *, under a single statement. Assumes nothing.
+-- "Lines checked by hand": the rows marked *, and lines of request C-16, under a single statement. Assumes nothing.
 use mathlib.Core.Path.{_≡_}
 use mathlib.Core.List.{List, [], _∷_}
 use Prim.Native.Nat.{ℕ}
@@ -7,7 +7,7 @@ use Rattle.form.specs.Table.{plain}
 use Rattle.decode.specs.Reading.{decoding}
 use Rattle.encode.specs.Writing.{encoding}
 use Rattle.roundtrip.specs.Demand.{utf8, CleanList}
-use Rattle.advance.specs.Step.{continuation, incomplete, unit, Told, tell}
+use Rattle.advance.specs.Step.{continuation, incomplete, unit, Told, tell, tell-bad}
 use Rattle.restart.specs.Runs.{sixteen, answers, state-after}
 use Rattle.restart.specs.Packets.{start}
 
@@ -20,6 +20,9 @@ LAST+SURRO = 3
 
 abbrev LAST+STRICT : ℕ
 LAST+STRICT = 5
+
+abbrev LAST+SURRO+STRICT : ℕ
+LAST+SURRO+STRICT = 7
 
 -- with room for a code per byte the bytes s give the codes l, all are consumed, and the number is 0
 abbrev pub Gives : ℕ → List ℕ → List ℕ → Type 0
@@ -46,6 +49,11 @@ pub record Lines : Type 0 where
   pub cut-waits : decoding 0 2 (0xE2 ∷ 0x80 ∷ []) ≡ record { number = 2; consumed = 0; codes = []; subpart = 0 }
   pub droplet : Gives LAST (0xF0 ∷ 0x9F ∷ 0x92 ∷ 0xA7 ∷ []) (0x1F4A7 ∷ [])
   pub strict : decoding LAST+STRICT 2 (0x34 ∷ 0x80 ∷ []) ≡ record { number = 3; consumed = 1; codes = 0x34 ∷ []; subpart = 1 }
+  -- how long a bad stretch is: a partial end with LAST, the table as SURRO widens it, and bytes held before
+  pub cut-strict : decoding LAST+STRICT 2 (0xE1 ∷ 0x80 ∷ []) ≡ record { number = 3; consumed = 0; codes = []; subpart = 2 }
+  pub surrogate-strict : decoding LAST+STRICT 3 (0xED ∷ 0xA0 ∷ 0x41 ∷ []) ≡ record { number = 3; consumed = 0; codes = []; subpart = 1 }
+  pub surrogate-widened : decoding LAST+SURRO+STRICT 3 (0xED ∷ 0xA0 ∷ 0x41 ∷ []) ≡ record { number = 3; consumed = 0; codes = []; subpart = 2 }
+  pub held-bad : Run ((0xE1 ∷ []) ∷ (0x80 ∷ 0x41 ∷ []) ∷ []) (tell incomplete 2 0 1 0 ∷ tell-bad 1 2 ∷ [])
   -- the writer's line
   pub escapes-written : Writes 3 (0xDCE2 ∷ 0xDC80 ∷ 0xDCB2 ∷ []) (0xE2 ∷ 0x80 ∷ 0xB2 ∷ [])
   pub prime-written : Writes 3 (0x2032 ∷ []) (0xE2 ∷ 0x80 ∷ 0xB2 ∷ [])
