@@ -527,9 +527,9 @@ fn step_from(bytes: &[u8; 16], input: &[u8], width: u32) -> String {
     match (state_of(bytes), width) {
         (State::Start, _) => step_by_peer(input, 0, width),
         (State::Held(held), _) => step_by_peer(&[&held, input].concat(), held.len(), width),
-        (State::Pending8(units), 8) => format!("continuation 0 {:X} 0 - {}", units[0], record(2, &units[1..])),
-        (State::Pending16(unit), 16) => format!("continuation 0 {unit:X} 0 - {START}"),
-        _ => format!("refused 5 - 0 - {}", hex(bytes)),
+        (State::Pending8(units), 8) => format!("continuation 0 {:X} 0 - - {}", units[0], record(2, &units[1..])),
+        (State::Pending16(unit), 16) => format!("continuation 0 {unit:X} 0 - - {START}"),
+        _ => format!("refused 5 - 0 - - {}", hex(bytes)),
     }
 }
 
