@@ -63,8 +63,8 @@ extern "C" {
  *     if a call for what is left, with room, consumes nothing.
  *
  * The bad stretch is the maximal subpart of the Unicode Standard (section 3.9): the
- * longest beginning of a well-formed sequence there, or else one byte.  A sequence
- * cut off at the end, bad with UTF8B_LAST, is one whole.
+ * longest beginning of a well-formed sequence there, or else one byte.  With
+ * UTF8B_LAST a sequence cut off at the end is one bad stretch.
  */
 int64_t utf8b_decode(const uint8_t *src, size_t src_len,
                      uint8_t *codes, size_t codes_len,
