@@ -18,7 +18,7 @@ use Rattle.form.proofs.Codes.{codes-iff, codes-sequence, sequence-codes
 use Rattle.form.proofs.Laws.{Scans, scans}
 use Rattle.form.proofs.Utf8.{plain-sound}
 
--- each scalar value has one sequence, no other number has any, and the longest has n bytes
+-- each scalar value has one sequence, no other number has any, and the longest has n bytes, more than one
 pub record EncodingForm (F : Form) (n : ℕ) : Type 0 where
   pub scans : Scans F n
   pub long : 1 < n

@@ -63,6 +63,9 @@ module _ {F : Form} {k : ℕ} (S : Scans F k) where
       go (yes h) = omega arith
       go (no h) = omega (arith, S .shorter (take n s) (proper (p .begins (omega arith)) (omega arith)) .1, length-take-le n s (p .within))
 
+  pub bad-short : 1 < k → (s : List ℕ) (n : ℕ) → scan F s ≡ bad n → max 1 n < k
+  bad-short l s n e = subpart-short l s (max 1 n) (S .finds-bad s n .0 e .0) (bad-subpart s n e)
+
 -- the whole of a partial sequence
 pub subpart-partial : (F : Form) (s : List ℕ) (n : ℕ) → Partial F s → Subpart F s n → n ≡ length s
 subpart-partial F s n (l, (t, p, w)) q = go (decLe (length s) n)

@@ -1,12 +1,13 @@
 -- What the leaf finds in the window. Assumes nothing.
 use mathlib.Core.Path.{_≡_, sym, ap, _∙_, subst}
 use mathlib.Core.List.{List, _++_}
-use Prim.Native.Nat.{ℕ, _+_, _≤_}
+use Prim.Native.Nat.{ℕ, _+_, _≤_, _<_}
 use native.Mathlib.Omega.{arith}
 use borrow.Author.Needs.{needs}
 use lib.ListN.{length, take}
 use lib.Seq.{length-take-le}
 use Rattle.form.specs.Scan.{Found, scan}
+use Rattle.form.proofs.Subparts.{bad-short}
 use Rattle.front.specs.declared.Front.{Front}
 use Rattle.front.specs.declared.Front.the-variants as Variants
 use Rattle.classify.specs.Lead.{rowsOf}
@@ -93,13 +94,11 @@ returns-3 c =
     is-read s _ _ (c .done2 .ensures ∙ ap (λ (w : Window). with-next (Done Incomplete) (record { kind = 1; count = w .count; bytes = w .bytes })) (g .gather .ensures))
     (reads-some (form-scans (s .args .form)) (places s) (s .pre) (input s) (finds q _ (c .before .before .enum-told .given .1)) (λ e. c .before .if1 .left (count g ∙ e)))
 
--- the subpart lies within the window
-subpart-few : (q : tie.After-front-of) (n : ℕ) → q .front-of .result ≡ Variants.Bad n → n ≤ 4
+subpart-few : (q : tie.After-front-of) (n : ℕ) → q .front-of .result ≡ Variants.Bad n → n < 4
 subpart-few q n e =
-    let g = gathered q in
-    let (m, f, i) = subst (λ (x : Front). Finds x (shown g)) e (told-finds (q .front-of .result) (shown g) _ (q .front-of .ensures)) in
-    let l = form-scans (start g .args .form) .finds-bad (take (g .gather .result .count) (g .gather .result .bytes)) m .0 f .1 .inside in
-    omega (arith, i, l, length-take-le (g .gather .result .count) (g .gather .result .bytes) (omega (arith, filled g, count-few g)), count-few g)
+    let s = start (gathered q) in
+    let (k, f, i) = finds q (Variants.Bad n) e in
+    rw i (bad-short (form-scans (s .args .form)) (omega arith) (used (s .args .s) ++ input s) k f)
 
 returns-4 : tie.Need-returns-4
 returns-4 c =

@@ -1,8 +1,6 @@
 -- From the last of eight places to the first. Assumes nothing.
-use mathlib.Core.Path.{_≡_, sym}
-use Prim.Native.Nat.{ℕ, _-_, _<_}
+use Prim.Native.Nat.{_-_, _<_}
 use native.Mathlib.Omega.{arith}
-use lib.ListN.{length}
 use borrow.Author.Needs.{needs}
 use Rattle.numbers.proofs.Getting.{Got, got-start, got-room, got-turn, got-pass, got-end}
 use Rattle.numbers.proofs.number_of.Statement.{statement}
