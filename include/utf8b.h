@@ -30,7 +30,7 @@ extern "C" {
 #define UTF8B_LAST 1u   /* no bytes follow: a sequence cut off at the end is bad bytes; changes nothing in the writer */
 #define UTF8B_SURRO 2u  /* surrogates U+D800..U+DFFF go through as three bytes, and no escape is written as its byte */
 #define UTF8B_STRICT 4u /* stop where the bytes or the code are bad */
-#define UTF8B_SHOW 8u   /* read each bad byte as U+FFFD; refused with UTF8B_STRICT, and by the writer */
+#define UTF8B_SHOW 8u   /* read each bad stretch as one U+FFFD; refused with UTF8B_STRICT, and by the writer */
 
 /* Answers below 0.  After all but the first, no buffer has been changed. */
 #define UTF8B_BAD (-1)             /* bad at once, with nothing produced; the report's count is 0 */

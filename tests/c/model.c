@@ -109,11 +109,16 @@ static int read_codes(const struct call *c, struct outcome *o)
             number = 1;
             break;
         }
-        if (length)
+        if (length) {
             set_code(o->out, made, code_of(s, length));
-        else
-            set_code(o->out, made, c->flags & UTF8B_SHOW ? 0xFFFD : 0xDC00u + s[0]);
-        i += length ? length : 1;
+            i += length;
+        } else if (c->flags & UTF8B_SHOW) {
+            set_code(o->out, made, 0xFFFD);
+            i += maximal_subpart(s, n, c->flags);
+        } else {
+            set_code(o->out, made, 0xDC00u + s[0]);
+            i++;
+        }
         made++;
     }
     return number;

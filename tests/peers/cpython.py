@@ -22,7 +22,7 @@ BORDER_CODES = [0, 0x41, 0x7F, 0x80, 0x7FF, 0x800, 0xD7FF, 0xD800, 0xDBFF, 0xDC0
                 0xE000, 0xFFFD, 0xFFFF, 0x10000, 0x10FFFF, 0x110000, 0x80000000, 0xFFFFFFFF]
 START = '00' * 16
 
-compared = differences = 0
+compared = with_show = differences = 0
 seed = 88172645463325252
 
 
@@ -95,10 +95,6 @@ def escape_byte(error):
     return chr(0xDC00 + error.object[error.start]), error.start + 1
 
 
-def show_byte(error):
-    return '\uFFFD', error.start + 1
-
-
 def surrogate_or(other):
     surrogate = codecs.lookup_error('surrogatepass')
 
@@ -110,21 +106,6 @@ def surrogate_or(other):
     return handle
 
 
-codecs.register_error('show', show_byte)
-codecs.register_error('surrogate or escape', surrogate_or(escape_byte))
-codecs.register_error('surrogate or show', surrogate_or(show_byte))
-READER_ERRORS = {0: 'surrogateescape', SURRO: 'surrogate or escape', STRICT: 'strict', STRICT | SURRO: 'surrogatepass',
-                 SHOW: 'show', SHOW | SURRO: 'surrogate or show'}
-
-
-def wide(text):
-    return text.encode('utf-32-le', 'surrogatepass')
-
-
-def answer_of(items, bad):
-    return -1 if bad and items == 0 else items
-
-
 def surrogate_begins(data):
     """ED A0..BF, which CPython's 'surrogatepass' takes for bad after ED unless the third byte is there: with SURRO it begins a sequence."""
     return data[:1] == b'\xED' and 0xA0 <= (data + b'\0')[1] <= 0xBF
@@ -134,6 +115,24 @@ def bad_length(error, flags):
     if flags & SURRO and surrogate_begins(error.object[error.start:]):
         return 2
     return error.end - error.start
+
+
+def mark_subpart(error):
+    return '\uFFFD', error.start + bad_length(error, SURRO)
+
+
+codecs.register_error('surrogate or escape', surrogate_or(escape_byte))
+codecs.register_error('surrogate or mark', surrogate_or(mark_subpart))
+READER_ERRORS = {0: 'surrogateescape', SURRO: 'surrogate or escape', STRICT: 'strict', STRICT | SURRO: 'surrogatepass',
+                 SHOW: 'replace', SHOW | SURRO: 'surrogate or mark'}
+
+
+def wide(text):
+    return text.encode('utf-32-le', 'surrogatepass')
+
+
+def answer_of(items, bad):
+    return -1 if bad and items == 0 else items
 
 
 def read_by_peer(data, flags):
@@ -153,7 +152,9 @@ def kept_back(data, flags):
 
 
 def compare_read(library, data, flags):
+    global with_show
     if not kept_back(data, flags):
+        with_show += flags & SHOW != 0
         compare(read_by_peer(data, flags), library.read(data, flags), 'read, flags', flags, 'bytes', data)
 
 
@@ -246,6 +247,15 @@ def compare_reads(library):
             compare_read(library, data, flags)
     for data in random_strings():
         compare_read(library, data, READER_FLAGS[below(len(READER_FLAGS))])
+
+
+def compare_lossy(library):
+    """The whole of bytes.decode with 'replace'."""
+    global with_show
+    for data in map(bytes, itertools.chain(itertools.product(BORDER, repeat=4), itertools.product(NARROW_BORDER, repeat=5))):
+        text = data.decode('utf-8', 'replace')
+        with_show += 1
+        compare((len(text), len(data), 0, wide(text)), library.read(data, SHOW | LAST), "decode with 'replace', bytes", data)
 
 
 def read_in_pieces(library, data, flags):
@@ -412,11 +422,12 @@ def compare_steps(probe):
 def main(library, probe):
     library = Library(library)
     compare_reads(library)
+    compare_lossy(library)
     compare_pieces(library)
     compare_writes(library)
     compare_refusals(library)
     compare_steps(probe)
-    print(f'{compared} comparisons, {differences} differences')
+    print(f'{compared} comparisons, {with_show} of them with SHOW, {differences} differences')
     return differences != 0
 
 

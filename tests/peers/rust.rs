@@ -75,39 +75,84 @@ fn codes_of(text: &str) -> Vec<u32> {
     text.chars().map(u32::from).collect()
 }
 
+/// A reading: its number, the codes, for each the bytes that it came from, and the length of the bad stretch.
+struct Reading {
+    number: u32,
+    codes: Vec<u32>,
+    spans: Vec<usize>,
+    bad_length: u8,
+}
+
+impl Reading {
+    fn of(text: &str, number: u32, bad_length: u8) -> Reading {
+        let mut reading = Reading { number, codes: vec![], spans: vec![], bad_length };
+        reading.extend(text);
+        reading
+    }
+
+    fn push(&mut self, code: u32, span: usize) {
+        self.codes.push(code);
+        self.spans.push(span);
+    }
+
+    fn extend(&mut self, text: &str) {
+        text.chars().for_each(|c| self.push(c.into(), c.len_utf8()));
+    }
+
+    /// A smaller room cuts the codes short, with number 1.
+    fn with_room(mut self, room: usize) -> Reading {
+        if self.codes.len() > room {
+            self.codes.truncate(room);
+            self.spans.truncate(room);
+            self.number = 1;
+            self.bad_length = 0;
+        }
+        self
+    }
+
+    fn consumed(&self) -> u64 {
+        self.spans.iter().sum::<usize>() as u64
+    }
+
+    fn left(self) -> Left<u32> {
+        let (answer, consumed) = (answer_of(self.codes.len(), self.number == 3), self.consumed());
+        Left { answer, consumed, bad_length: self.bad_length, items: self.codes }
+    }
+}
+
 /// STRICT, by from_utf8: no error_len is a partial sequence, which waits unless LAST is given, and is then bad as a whole.
-fn read_strictly_by_peer(data: &[u8], flags: u32) -> (Left<u32>, u32) {
+fn read_strictly_by_peer(data: &[u8], flags: u32) -> Reading {
     let (valid, number, bad_length) = match from_utf8(data) {
         Ok(_) => (data.len(), 0, 0),
         Err(e) if e.error_len().is_none() && flags & LAST == 0 => (e.valid_up_to(), 2, 0),
         Err(e) => (e.valid_up_to(), 3, e.error_len().unwrap_or(data.len() - e.valid_up_to()) as u8),
     };
-    let items = codes_of(from_utf8(&data[..valid]).unwrap());
-    (Left { answer: answer_of(items.len(), number == 3), consumed: valid as u64, bad_length, items }, number)
+    Reading::of(from_utf8(&data[..valid]).unwrap(), number, bad_length)
 }
 
 fn is_partial(bytes: &[u8]) -> bool {
     from_utf8(bytes).is_err_and(|e| e.valid_up_to() == 0 && e.error_len().is_none())
 }
 
-/// Without STRICT, by utf8_chunks: every byte of an invalid part is an escape, or a mark with SHOW.
-fn read_loosely_by_peer(data: &[u8], flags: u32) -> (Left<u32>, u32) {
-    let (mut items, mut consumed, mut number) = (Vec::new(), 0, 0);
+/// Without STRICT, by utf8_chunks: with SHOW an invalid part is a mark, else every byte of it is an escape.
+fn read_loosely_by_peer(data: &[u8], flags: u32) -> Reading {
+    let mut reading = Reading::of("", 0, 0);
     for chunk in data.utf8_chunks() {
-        items.extend(chunk.valid().chars().map(u32::from));
-        consumed += chunk.valid().len() as u64;
-        let (invalid, ends) = (chunk.invalid(), consumed as usize + chunk.invalid().len() == data.len());
+        reading.extend(chunk.valid());
+        let invalid = chunk.invalid();
+        let ends = reading.consumed() as usize + invalid.len() == data.len();
         if ends && flags & LAST == 0 && is_partial(invalid) {
-            number = 2;
-            break;
+            reading.number = 2;
+        } else if flags & SHOW == 0 {
+            invalid.iter().for_each(|&b| reading.push(0xDC00 + u32::from(b), 1));
+        } else if !invalid.is_empty() {
+            reading.push(0xFFFD, invalid.len());
         }
-        items.extend(invalid.iter().map(|&b| if flags & SHOW != 0 { 0xFFFD } else { 0xDC00 + u32::from(b) }));
-        consumed += invalid.len() as u64;
     }
-    (Left { answer: items.len() as i64, consumed, bad_length: 0, items }, number)
+    reading
 }
 
-fn read_by_peer(data: &[u8], flags: u32) -> (Left<u32>, u32) {
+fn read_by_peer(data: &[u8], flags: u32) -> Reading {
     if flags & STRICT != 0 { read_strictly_by_peer(data, flags) } else { read_loosely_by_peer(data, flags) }
 }
 
@@ -116,6 +161,7 @@ const READER_FLAGS: [u32; 6] = [0, LAST, STRICT, STRICT | LAST, SHOW, SHOW | LAS
 
 struct Tally {
     compared: usize,
+    with_show: usize,
     differences: usize,
 }
 
@@ -205,7 +251,8 @@ fn short_strings() -> Vec<Vec<u8>> {
 // The entries.
 
 fn compare_read(tally: &mut Tally, data: &[u8], flags: u32) {
-    tally.compare(&read_by_peer(data, flags).0, &read(data, flags), || format!("read, flags {flags}, bytes {data:02X?}"));
+    tally.with_show += usize::from(flags & SHOW != 0);
+    tally.compare(&read_by_peer(data, flags).left(), &read(data, flags), || format!("read, flags {flags}, bytes {data:02X?}"));
 }
 
 fn compare_reads(tally: &mut Tally, random: &mut Random) {
@@ -219,6 +266,17 @@ fn compare_reads(tally: &mut Tally, random: &mut Random) {
         for flags in READER_FLAGS {
             compare_read(tally, data, flags);
         }
+    }
+}
+
+/// The whole of from_utf8_lossy, on every string of three bytes and on longer ones.
+fn compare_lossy(tally: &mut Tally) {
+    let every = (0..1 << 24).map(|n: u32| n.to_be_bytes()[1..].to_vec());
+    for data in every.chain(strings_over(BORDER, 4)).chain(strings_over(NARROW_BORDER, 5)) {
+        let items = codes_of(&String::from_utf8_lossy(&data));
+        let expected = Left { answer: items.len() as i64, consumed: data.len() as u64, bad_length: 0, items };
+        tally.with_show += 1;
+        tally.compare(&expected, &read(&data, SHOW | LAST), || format!("from_utf8_lossy, bytes {data:02X?}"));
     }
 }
 
@@ -252,7 +310,7 @@ fn compare_pieces(tally: &mut Tally, random: &mut Random) {
         }
         for flags in READER_FLAGS {
             let pieces = read_in_pieces(random, &data, flags);
-            tally.compare(&read_by_peer(&data, flags).0, &pieces, || format!("pieces, flags {flags}, bytes {data:02X?}"));
+            tally.compare(&read_by_peer(&data, flags).left(), &pieces, || format!("pieces, flags {flags}, bytes {data:02X?}"));
         }
     }
 }
@@ -343,29 +401,13 @@ fn length(n: u8) -> String {
     if n == 0 { "-".to_string() } else { n.to_string() }
 }
 
-/// The bytes that a code came from; an escape is one byte.
-fn length_of(code: u32) -> u64 {
-    char::from_u32(code).map_or(1, |c| c.len_utf8() as u64)
-}
-
-/// A smaller room cuts the codes short, with number 1.
-fn with_room((mut left, number): (Left<u32>, u32), room: usize) -> (Left<u32>, u32) {
-    if left.items.len() <= room {
-        return (left, number);
-    }
-    left.items.truncate(room);
-    left.bad_length = 0;
-    left.consumed = left.items.iter().map(|&code| length_of(code)).sum();
-    (left, 1)
-}
-
 fn compare_numbers(tally: &mut Tally, probe: &str) {
     let mut batch = Batch::default();
     for (i, data) in strings_over(BORDER, 2).iter().chain(&strings_over(NARROW_BORDER, 3)).enumerate() {
         for flags in READER_FLAGS {
-            let room = if flags & SHOW != 0 { data.len() } else { i % (data.len() + 1) };
-            let (left, number) = with_room(read_by_peer(data, flags), room);
-            let expected = format!("{number} {} {} {}", left.consumed, list(&left.items), length(left.bad_length));
+            let room = i % (data.len() + 1);
+            let r = read_by_peer(data, flags).with_room(room);
+            let expected = format!("{} {} {} {}", r.number, r.consumed(), list(&r.codes), length(r.bad_length));
             batch.add(format!("read {flags} {room} {}", hex(data)), expected);
         }
     }
@@ -581,9 +623,10 @@ fn compare_records(tally: &mut Tally, probe: &str) {
 
 fn main() {
     let probe = std::env::args().nth(1).expect("usage: rust PROBE");
-    let mut tally = Tally { compared: 0, differences: 0 };
+    let mut tally = Tally { compared: 0, with_show: 0, differences: 0 };
     let mut random = Random(88172645463325252);
     compare_reads(&mut tally, &mut random);
+    compare_lossy(&mut tally);
     compare_pieces(&mut tally, &mut random);
     compare_writes(&mut tally, &mut random);
     compare_numbers(&mut tally, &probe);
@@ -592,6 +635,6 @@ fn main() {
     compare_units(&mut tally, &probe, &mut random);
     compare_back(&mut tally, &probe, &mut random);
     compare_records(&mut tally, &probe);
-    println!("{} comparisons, {} differences", tally.compared, tally.differences);
+    println!("{} comparisons, {} of them with SHOW, {} differences", tally.compared, tally.with_show, tally.differences);
     exit(i32::from(tally.differences != 0));
 }

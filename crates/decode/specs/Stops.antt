@@ -10,10 +10,9 @@ use Rattle.form.specs.Table.{Form, Partial}
 use Rattle.form.specs.Subpart.{StartsNone, Subpart}
 use Rattle.decode.specs.Reading.{Reading}
 
--- where the number is 3: STRICT is given, no well-formed sequence starts at the front of s, and the maximal subpart there has k bytes, fewer than the
--- longest sequence, which has n; of a partial sequence, bad where LAST is given, it is the whole
+-- no well-formed sequence starts at the front of s, and the maximal subpart there has k bytes, fewer than the longest sequence, which has n; of a partial
+-- sequence, bad where LAST is given, it is the whole
 pub record BadAt (F : Form) (n : ℕ) (m : Flags) (s : List ℕ) (k : ℕ) : Type 0 where
-  pub strict : m .strict ≡ true
   pub none : StartsNone F s
   pub subpart : Subpart F s k
   pub shorter : k < n

@@ -11,6 +11,7 @@ use Rattle.form.specs.Subpart.{StartsNone, Subpart}
 use Rattle.form.specs.Scan.{Found, well, part, bad, scan}
 use Rattle.form.specs.Text.{stray, item}
 use Rattle.form.proofs.Laws.{Scans}
+use Rattle.form.proofs.Bad.{bad-within}
 
 pub subpart-only : (F : Form) (s : List ℕ) (n m : ℕ) → Subpart F s n → Subpart F s m → n ≡ m
 subpart-only F s n m p q = go (decLe n m) (decLe m n)
@@ -19,6 +20,15 @@ subpart-only F s n m p q = go (decLe n m) (decLe m n)
     go (yes h) (yes g) = omega arith
     go (yes h) (no g) = absurd (p .longest m (omega arith) (q .within) (q .begins (omega (arith, p .some))))
     go (no h) g = absurd (q .longest n (omega arith) (p .within) (p .begins (omega (arith, q .some))))
+
+-- within the bytes, whatever the rows
+pub stray-within : (F : Form) (b : ℕ) (s : List ℕ) (n : ℕ) → item (scan F (b ∷ s)) b s ≡ stray b n → n ≤ suc (length s)
+stray-within F b s n = go (scan F (b ∷ s)) refl
+  where
+    go : (x : Found) → scan F (b ∷ s) ≡ x → item x b s ≡ stray b n → n ≤ suc (length s)
+    go (well c m) e h = let z : _≡_ {A = ℕ} 0 1 = cc in absurd (omega arith)
+    go (bad m) e h = let i : n ≡ max 1 m = cc in omega (arith, bad-within F (b ∷ s) m e)
+    go part e h = let i : n ≡ suc (length s) = cc in omega arith
 
 module _ {F : Form} {k : ℕ} (S : Scans F k) where
   pub bad-subpart : (s : List ℕ) (n : ℕ) → scan F s ≡ bad n → Subpart F s (max 1 n)

@@ -53,7 +53,7 @@ decode-bad s d f r e =
     let whole = given-bad (R .number) (R .consumed) (length (R .codes)) (R .subpart) (laid (R .codes)) d r in
     let long = tested (in-limit s && in-limit d) _ (refused 8 d r) _ _ _ _ whole (above 6) in
     let (q, n, t) = tested (is-report r) _ (refused 6 d r) _ _ _ _ long (above 4) e in
-    (R .subpart, refuses-strict f (length d / 4) s q .subpart .some, t ∙ ap (λ (k : ℕ). low-first 8 k ++ (R .subpart ∷ [])) (none-consumed f (length d / 4) s n))
+    (R .subpart, refuses-strict f (length d / 4) s q .1 .subpart .some, t ∙ ap (λ (k : ℕ). low-first 8 k ++ (R .subpart ∷ [])) (none-consumed f (length d / 4) s n))
 
 pub encode-bad : (s d : List ℕ) (f : ℕ) (r : List ℕ) → encode-entry s d f r .answer ≡ minus-one → encode-entry s d f r .report ≡ low-first 8 0 ++ (0 ∷ [])
 unfolding encode-entry

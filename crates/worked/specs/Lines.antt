@@ -1,4 +1,4 @@
--- "Lines checked by hand": the rows marked *, and lines of request C-16, under a single statement. Assumes nothing.
+-- "Lines checked by hand": the rows marked *, and lines of the requests C-16 and C-11, under a single statement. Assumes nothing.
 use mathlib.Core.Path.{_≡_}
 use mathlib.Core.List.{List, [], _∷_}
 use Prim.Native.Nat.{ℕ}
@@ -23,6 +23,15 @@ LAST+STRICT = 5
 
 abbrev LAST+SURRO+STRICT : ℕ
 LAST+SURRO+STRICT = 7
+
+abbrev SHOW : ℕ
+SHOW = 8
+
+abbrev LAST+SHOW : ℕ
+LAST+SHOW = 9
+
+abbrev LAST+SURRO+SHOW : ℕ
+LAST+SURRO+SHOW = 11
 
 -- with room for a code per byte the bytes s give the codes l, all are consumed, and the number is 0
 abbrev pub Gives : ℕ → List ℕ → List ℕ → Type 0
@@ -54,6 +63,16 @@ pub record Lines : Type 0 where
   pub surrogate-strict : decoding LAST+STRICT 3 (0xED ∷ 0xA0 ∷ 0x41 ∷ []) ≡ record { number = 3; consumed = 0; codes = []; subpart = 1 }
   pub surrogate-widened : decoding LAST+SURRO+STRICT 3 (0xED ∷ 0xA0 ∷ 0x41 ∷ []) ≡ record { number = 3; consumed = 0; codes = []; subpart = 2 }
   pub held-bad : Run ((0xE1 ∷ []) ∷ (0x80 ∷ 0x41 ∷ []) ∷ []) (tell incomplete 2 0 1 0 ∷ tell-bad 1 2 ∷ [])
+  -- one mark for each maximal subpart: four and 41; by the table as SURRO widens it, and none for a code that SURRO reads; waiting for more of a partial end;
+  -- and with room for a mark or none
+  pub four-marks : Gives LAST+SHOW (0xE1 ∷ 0x80 ∷ 0xE2 ∷ 0xF0 ∷ 0x91 ∷ 0x92 ∷ 0xF1 ∷ 0xBF ∷ 0x41 ∷ []) (0xFFFD ∷ 0xFFFD ∷ 0xFFFD ∷ 0xFFFD ∷ 0x41 ∷ [])
+  pub surrogate-marks : Gives LAST+SHOW (0xED ∷ 0xA0 ∷ 0x41 ∷ []) (0xFFFD ∷ 0xFFFD ∷ 0x41 ∷ [])
+  pub surrogate-mark : Gives LAST+SURRO+SHOW (0xED ∷ 0xA0 ∷ 0x41 ∷ []) (0xFFFD ∷ 0x41 ∷ [])
+  pub surrogate-unmarked : Gives LAST+SURRO+SHOW (0xED ∷ 0xB2 ∷ 0x80 ∷ []) (0xDC80 ∷ [])
+  pub cut-marked : Gives LAST+SHOW (0xF0 ∷ 0x9F ∷ 0x92 ∷ []) (0xFFFD ∷ [])
+  pub cut-unmarked : decoding SHOW 3 (0xE1 ∷ 0x80 ∷ 0xE2 ∷ []) ≡ record { number = 2; consumed = 2; codes = 0xFFFD ∷ []; subpart = 0 }
+  pub no-room : decoding LAST+SHOW 0 (0xE1 ∷ 0x80 ∷ 0x41 ∷ []) ≡ record { number = 1; consumed = 0; codes = []; subpart = 0 }
+  pub one-room : decoding LAST+SHOW 1 (0xE1 ∷ 0x80 ∷ 0x41 ∷ []) ≡ record { number = 1; consumed = 2; codes = 0xFFFD ∷ []; subpart = 0 }
   -- the writer's line
   pub escapes-written : Writes 3 (0xDCE2 ∷ 0xDC80 ∷ 0xDCB2 ∷ []) (0xE2 ∷ 0x80 ∷ 0xB2 ∷ [])
   pub prime-written : Writes 3 (0x2032 ∷ []) (0xE2 ∷ 0x80 ∷ 0xB2 ∷ [])

@@ -13,7 +13,7 @@ use Rattle.classify.specs.declared.Form.{Form}
 use Rattle.classify.specs.Lead.{rowsOf}
 use Rattle.form.specs.Pattern.{bits}
 use Rattle.decode.specs.Reading.{turn, convert}
-use Rattle.decode.proofs.Places.{Reached, reached-start, reached-next, ends-stop, ends-full, ends-used-up, Walking, walk-begun, NoneAt, walk-on, turn-whole, turn-waits, none-partial, none-bad, none-strict, none-lax}
+use Rattle.decode.proofs.Places.{Reached, reached-start, reached-within, reached-next, ends-stop, ends-full, ends-used-up, Walking, walk-begun, NoneAt, walk-on, turn-whole, turn-waits, none-partial, none-bad, none-strict, none-lax}
 use Rattle.decode.proofs.read_as.Statement.{statement}
 use Rattle.decode.proofs.read_as.Tie as tie
 
@@ -102,18 +102,15 @@ places-again c =
     let b = c .before .before .before .before .before in
     let p = place b in
     let e : p .places .at + size b ≡ b .bytes .end = omega (arith, b .bytes .inv .begins) in
-    let r = reached-next (p .places .inv .0) _ (size b) (whole (c .before .before .before)) (omega (arith, e, b .bytes .inv .within)) (room-left p (c .before .before .if6 .left)) in
+    let r = reached-next (p .places .inv .0) _ (size b) (whole (c .before .before .before)) (room-left p (c .before .before .if6 .left)) in
     (rw (c .code-of .ensures) (rw e at r), p .places .inv .1)
 
 places-again-2 : tie.Need-places-again-2 Inv-bytes μ-bytes Inv-places μ-places
 places-again-2 c =
-    let u = c .before .before .before .before in
-    let b = u .before .before .before in
-    let p = place b in (
-      rw (c .stray .ensures)
-          (reached-next (p .places .inv .0) _ 1 (none-lax (none-by u) (c .before .before .before .if7 .left))
-          (omega (arith, b .bytes .inv .begins, b .bytes .inv .within))
-          (room-left p (c .before .before .if8 .left))),
+    let u = c .before .before .before .before .before in
+    let p = place (u .before .before .before) in (
+      rw (c .before .stray .ensures, c .taken .ensures)
+          (reached-next (p .places .inv .0) _ _ (none-lax (none-by u) (c .before .before .before .before .if7 .left)) (room-left p (c .before .before .before .if8 .left))),
       p .places .inv .1,
     )
 
@@ -179,8 +176,12 @@ read-as-spec =
     (λ c. let p = place (c .before .before .before .before .before .before .before) in scaled-fits (p .places .n) (length (start p .args .codes .now)) 4 (room-left p (c .before .before .if8 .left)) (start p .good .1 .1 .1 .0 .1))
     (λ c. let p = place (c .before .before .before .before .before .before .before) in omega (arith, p .places .inv .0 .same, room-left p (c .before .before .if8 .left)))
     (λ c. let p = place (c .before .before .before .before .before .before .before) in omega (arith, room-left p (c .before .before .if8 .left)))
-    (λ c. let b = c .before .before .before .before .before .before .before in omega (arith, b .bytes .inv .begins, b .bytes .inv .within))
-    (λ c. let p = place (c .before .before .before .before .before .before .before) in omega (arith, room-left p (c .before .before .if8 .left)))
+    (λ c κs. search needs)
+    (λ c.
+    let u = c .before .before .before .before .before in
+    let p = place (u .before .before .before) in
+    omega (arith, c .taken .ensures, reached-within (p .places .inv .0) _ _ (none-lax (none-by u) (c .before .before .before .before .if7 .left))))
+    (λ c. let p = place (c .before .before .before .before .before .before .before .before) in omega (arith, room-left p (c .before .before .before .if8 .left)))
     places-again-2
     (λ c. c .before .places .inv .0 .same)
     returns
