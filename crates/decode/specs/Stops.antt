@@ -1,4 +1,4 @@
--- What a reading's answer tells of the place where it stopped. Assumes nothing.
+-- What holds at a bad place, and what a reading's answer tells of the place where it stopped. Assumes nothing.
 use mathlib.Core.Path.{_≡_}
 use mathlib.Core.Logic.{_↔_}
 use mathlib.Core.Bool.{true}
