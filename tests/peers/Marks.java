@@ -7,9 +7,10 @@
  * has each of the bytes for itself: it marks by the table as SURRO widens it, and marks surrogates too.
  */
 import java.io.IOException;
-import java.io.InputStream;
+import java.io.UncheckedIOException;
 import java.nio.charset.StandardCharsets;
 import java.util.ArrayList;
+import java.util.Arrays;
 import java.util.HexFormat;
 import java.util.List;
 import java.util.Random;
@@ -22,36 +23,41 @@ final class Marks {
     private static final HexFormat HEX = HexFormat.of().withUpperCase();
     private static final byte[] BORDER = HEX.parseHex("00417F808F909FA0B2BFC0C1C2DFE0E1ECEDEEEFF0F1F3F4F5F7F8FF");
     private static final byte[] NARROW_BORDER = HEX.parseHex("41808F909FA0BFC2E0EDF0F4");
+    private static final int[] LIMITS = {0x80, 0x800, 0xD800, 0x110000};
 
-    private static final Random random = new Random(88172645463325252L);
+    private final Random random = new Random(88172645463325252L);
+    private final List<String> commands = new ArrayList<>(), expected = new ArrayList<>();
+
+    // Inputs.
 
     /** All strings of that length over the bytes. */
     private static List<byte[]> stringsOver(byte[] bytes, int length) {
-        List<byte[]> all = List.of(new byte[0]);
-        for (int i = 0; i < length; i++) {
-            List<byte[]> longer = new ArrayList<>();
-            for (byte[] s : all)
-                for (byte b : bytes) {
-                    byte[] t = java.util.Arrays.copyOf(s, s.length + 1);
-                    t[s.length] = b;
-                    longer.add(t);
-                }
-            all = longer;
-        }
+        if (length == 0)
+            return List.of(new byte[0]);
+        List<byte[]> all = new ArrayList<>();
+        for (byte[] s : stringsOver(bytes, length - 1))
+            for (byte b : bytes) {
+                byte[] longer = Arrays.copyOf(s, length);
+                longer[length - 1] = b;
+                all.add(longer);
+            }
         return all;
     }
 
-    /** Scalar values of every length, with one byte changed. */
-    private static byte[] damaged() {
-        int[] codes = random.ints(1 + random.nextInt(12), 0, 4)
-            .map(i -> random.nextInt(new int[] {0x80, 0x800, 0xD800, 0x110000}[i]))
-            .map(c -> 0xD800 <= c && c <= 0xDFFF ? 0x2032 : c).toArray();
+    private int randomCode() {
+        int code = random.nextInt(LIMITS[random.nextInt(LIMITS.length)]);
+        return 0xD800 <= code && code <= 0xDFFF ? 0x2032 : code;
+    }
+
+    /** A text of which one byte is changed. */
+    private byte[] damaged() {
+        int[] codes = IntStream.generate(this::randomCode).limit(1 + random.nextInt(12)).toArray();
         byte[] bytes = new String(codes, 0, codes.length).getBytes(StandardCharsets.UTF_8);
         bytes[random.nextInt(bytes.length)] = (byte) random.nextInt(256);
         return bytes;
     }
 
-    private static List<byte[]> strings() {
+    private List<byte[]> strings() {
         List<byte[]> all = new ArrayList<>();
         for (int length = 1; length <= 3; length++)
             all.addAll(stringsOver(BORDER, length));
@@ -61,12 +67,23 @@ final class Marks {
         return all;
     }
 
-    private static boolean hasSurrogateBeginning(byte[] s) {
-        return IntStream.range(1, s.length).anyMatch(i -> s[i - 1] == (byte) 0xED && (s[i] & 0xFF) >= 0xA0 && (s[i] & 0xFF) <= 0xBF);
+    // Both sides.
+
+    private static boolean beginsSurrogate(byte[] s, int at) {
+        return s[at] == (byte) 0xED && (byte) 0xA0 <= s[at + 1] && s[at + 1] <= (byte) 0xBF;
     }
 
-    private static String list(IntStream codes) {
-        return codes.mapToObj(c -> String.format("%X", c)).collect(Collectors.joining(","));
+    private void add(byte[] s, int flags) {
+        String codes = new String(s, StandardCharsets.UTF_8).codePoints().mapToObj(c -> String.format("%X", c))
+            .collect(Collectors.joining(","));
+        commands.add("read " + flags + " " + s.length + " " + HEX.formatHex(s));
+        expected.add("0 " + s.length + " " + codes + " -");
+    }
+
+    private void add(byte[] s) {
+        add(s, LAST | SURRO | SHOW);
+        if (IntStream.range(0, s.length - 1).noneMatch(at -> beginsSurrogate(s, at)))
+            add(s, LAST | SHOW);
     }
 
     /** An answer with the surrogates marked that SURRO has read. */
@@ -74,47 +91,41 @@ final class Marks {
         return answer.replaceAll("\\bD[89A-F][0-9A-F]{2}\\b", "FFFD");
     }
 
-    private static List<String> ask(String probe, List<String> commands) throws IOException, InterruptedException {
-        Process process = new ProcessBuilder(probe).redirectError(ProcessBuilder.Redirect.INHERIT).start();
-        byte[] input = (String.join("\n", commands) + "\n").getBytes(StandardCharsets.US_ASCII);
-        Thread feeder = new Thread(() -> {
-            try (var to = process.getOutputStream()) {
-                to.write(input);
-            } catch (IOException e) {
-                throw new java.io.UncheckedIOException(e);
-            }
-        });
-        feeder.start();
-        String answers;
-        try (InputStream from = process.getInputStream()) {
-            answers = new String(from.readAllBytes(), StandardCharsets.US_ASCII);
+    private void feed(Process process) {
+        try (var to = process.getOutputStream()) {
+            to.write((String.join("\n", commands) + "\n").getBytes(StandardCharsets.US_ASCII));
+        } catch (IOException e) {
+            throw new UncheckedIOException(e);
         }
+    }
+
+    private List<String> ask(String probe) throws IOException, InterruptedException {
+        Process process = new ProcessBuilder(probe).redirectError(ProcessBuilder.Redirect.INHERIT).start();
+        Thread feeder = new Thread(() -> feed(process));
+        feeder.start();
+        List<String> answers = new String(process.getInputStream().readAllBytes(), StandardCharsets.US_ASCII).lines().toList();
         feeder.join();
-        if (process.waitFor() != 0)
-            throw new IllegalStateException("probe: exit status " + process.exitValue());
-        return answers.lines().toList();
+        if (process.waitFor() != 0 || answers.size() != commands.size())
+            throw new IllegalStateException(commands.size() + " commands, " + answers.size() + " answers, exit status " + process.exitValue());
+        return answers;
+    }
+
+    private int compare(List<String> answers) {
+        int differences = 0;
+        for (int i = 0; i < answers.size() && differences < MOST_DIFFERENCES; i++) {
+            if (expected.get(i).equals(marked(answers.get(i))))
+                continue;
+            System.out.printf("difference: %s%n  Java: %s%n  here: %s%n", commands.get(i), expected.get(i), answers.get(i));
+            differences++;
+        }
+        return differences;
     }
 
     public static void main(String[] args) throws IOException, InterruptedException {
-        List<String> commands = new ArrayList<>(), expected = new ArrayList<>();
-        for (byte[] s : strings()) {
-            String java = new String(s, StandardCharsets.UTF_8);
-            String answer = "0 " + s.length + " " + list(java.codePoints()) + " -";
-            for (int flags : hasSurrogateBeginning(s) ? new int[] {LAST | SURRO | SHOW} : new int[] {LAST | SHOW, LAST | SURRO | SHOW}) {
-                commands.add("read " + flags + " " + s.length + " " + HEX.formatHex(s));
-                expected.add(answer);
-            }
-        }
-        List<String> answers = ask(args[0], commands);
-        if (answers.size() != commands.size())
-            throw new IllegalStateException("probe: " + commands.size() + " commands, " + answers.size() + " answers");
-        int differences = 0;
-        for (int i = 0; i < commands.size() && differences < MOST_DIFFERENCES; i++)
-            if (!expected.get(i).equals(marked(answers.get(i)))) {
-                System.out.printf("difference: %s%n  Java: %s%n  here: %s%n", commands.get(i), expected.get(i), answers.get(i));
-                differences++;
-            }
-        System.out.printf("%d comparisons, %d differences%n", commands.size(), differences);
+        Marks marks = new Marks();
+        marks.strings().forEach(marks::add);
+        int differences = marks.compare(marks.ask(args[0]));
+        System.out.printf("%d comparisons, %d differences%n", marks.commands.size(), differences);
         System.exit(differences == 0 ? 0 : 1);
     }
 }
