@@ -11,7 +11,8 @@ void show_conditions(int rounds)
     puts("- An entry takes at most 1 MiB a buffer: 1 MiB of UTF-8 is one to four calls. The others take it in one,\n"
          "  but mbrtoc32 is called code by code.");
     puts("- Functions of ours, of Rust and of the benchmark begin at a multiple of 64 bytes; where a loop stands in\n"
-         "  its function can still make some 10 %. Those of the C library and of CPython are not moved.");
+         "  its function can still make some 10 %, and more where an indirect jump is hard to predict. Those of the\n"
+         "  C library and of CPython are not moved.");
     puts("- CPython's times include the making of its str or bytes. A str has 1, 2 or 4 bytes a code.");
     puts("- On random bytes mbrtoc32 and iconv are called again after each bad byte, which the caller escapes;\n"
          "  mbsnrtowcs and wcsnrtombs do not tell there how much they have put, and are not timed.");

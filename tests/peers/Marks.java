@@ -122,6 +122,10 @@ final class Marks {
     }
 
     public static void main(String[] args) throws IOException, InterruptedException {
+        if (args.length != 1) {
+            System.err.println("usage: java Marks.java PROBE");
+            System.exit(2);
+        }
         Marks marks = new Marks();
         marks.strings().forEach(marks::add);
         int differences = marks.compare(marks.ask(args[0]));
