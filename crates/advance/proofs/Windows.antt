@@ -50,9 +50,9 @@ module _ {F : Form} {n : ℕ} (S : Scans F n) where
           let z : _≡_ {A = ℕ} 0 1 = cc (p, S .finds-well h c m .1 (rw (take-append-le m h i n) at w, n)) in
           absurd (omega arith)
 
-module _ {F : Form} (S : Scans F 4) where
-  -- four bytes decide
-  full : (s : List ℕ) → 4 ≤ length s → scan F s ≡ part → ⊥
+module _ {F : Form} (S : Scans F 6) where
+  -- six bytes decide
+  full : (s : List ℕ) → 6 ≤ length s → scan F s ≡ part → ⊥
   full s h e = omega (arith, S .shorter s (S .finds-part s (omega arith) .0 e))
 
   stays : (s t : List ℕ) → (scan F s ≡ part → ⊥) → scan F (s ++ t) ≡ scan F s
@@ -73,10 +73,10 @@ module _ {F : Form} (S : Scans F 4) where
     abbrev d : List ℕ
     d = s .bytes
 
-    all-or-full : (m ≡ length i) ⊎ ((n + m ≡ 4) × (m ≤ length i))
-    all-or-full = go (decLe (length i) (4 - n))
+    all-or-full : (m ≡ length i) ⊎ ((n + m ≡ 6) × (m ≤ length i))
+    all-or-full = go (decLe (length i) (6 - n))
       where
-        go : Dec (length i ≤ 4 - n) → (m ≡ length i) ⊎ ((n + m ≡ 4) × (m ≤ length i))
+        go : Dec (length i ≤ 6 - n) → (m ≡ length i) ⊎ ((n + m ≡ 6) × (m ≤ length i))
         go (yes h) = inl (omega arith)
         go (no h) = inr (omega (arith, H .few), omega arith)
 
@@ -95,7 +95,7 @@ module _ {F : Form} (S : Scans F 4) where
         whole : m ≡ length i → scan F (take n d ++ take m i) ≡ scan F (used s ++ i)
         whole e = ap (λ (l : List ℕ). scan F (take n d ++ l)) (take-all m i (omega arith))
 
-        cut : (n + m ≡ 4) × (m ≤ length i) → scan F (take n d ++ take m i) ≡ scan F (used s ++ i)
+        cut : (n + m ≡ 6) × (m ≤ length i) → scan F (take n d ++ take m i) ≡ scan F (used s ++ i)
         cut e =
             sym (stays (take n d ++ take m i) (drop m i) (full (take n d ++ take m i) (omega (arith, window-length))))
             ∙ ap (scan F) (append-assoc (take n d) (take m i) (drop m i) ∙ ap (λ (l : List ℕ). take n d ++ l) (take-append-drop m i))

@@ -58,12 +58,12 @@ fn least(a: usize, b: usize) -> usize
     b
 }
 
-// Four bytes decide, in every form.
+// Six bytes decide, in every form.
 fn gather(held: [u8; 14], n: usize, input: &[u8]) -> Window
-    requires { ⌜ n ≤ 4 ⌝ }
+    requires { ⌜ n ≤ 6 ⌝ }
     ensures { λ r. ⌜ r ≡ record { bytes = paste held n (now (input .entry)) (taken n (now (input .entry))); count = n + taken n (now (input .entry)) } ⌝ }
 {
-    let m = least(4 - n, input.len());
+    let m = least(6 - n, input.len());
     let mut bytes = held;
     let mut i = 0;
     while i < m {

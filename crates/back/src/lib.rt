@@ -33,7 +33,8 @@ fn bytes_back(c: u32) -> Written
     ensures { λ r. ⌜ backOf r ≡ to (tell bytes 0 (sequence plain c) 0) starting ⌝ }
 {
     let w = sequence::bytes_of(Form::Plain, c);
-    let bytes = w.bytes;
+    let b = w.bytes;
+    let bytes = [b[0], b[1], b[2], b[3]];
     Written {
         answer: Back::Bytes,
         count: w.count,

@@ -7,7 +7,7 @@ use native.Mathlib.Omega.{arith}
 use lib.Dec.{T}
 use lib.ListN.{length}
 use borrow.Author.Tests.{le-leb, le-ltb}
-use Rattle.form.specs.Table.{Range, _to_, row, Form, plain, surro, surrogates, In, Fits, InAny, Codes, scalars}
+use Rattle.form.specs.Table.{Range, _to_, row, Form, plain, surro, cesu, surrogates, In, Fits, InAny, Codes, scalars}
 use Rattle.form.specs.Pattern.{pattern}
 use Rattle.form.specs.Text.{sequence, Bytes}
 use Rattle.form.proofs.Tests.{open?, proper-rows, ascending, tiles, at-most}
@@ -16,6 +16,7 @@ use Rattle.form.proofs.Codes.{codes-iff, codes-sequence, sequence-codes
 use Rattle.form.proofs.Demand.{sequence-bytes, proper-surrogates}
 use Rattle.form.proofs.EncodingForms.{sequence-few}
 use Rattle.form.proofs.Utf8.{plain-sound, plain-pattern, surro-regular, surro-codes, surro-pattern, surrogate-pattern, scalar-below}
+use Rattle.form.proofs.Cesu.{cesu-sound, cesu-patterned, cesu-short}
 use Rattle.form.proofs.Sequences.{Kind, scalar, surrogate, beyond, kind, scalar-outside, skipped, no-sequence, surro-ascending, pattern-bytes}
 
 abbrev three : Form
@@ -48,6 +49,9 @@ pub record Writer (F : Form) (n : ℕ) : Type 0 where
   pub most : (c : ℕ) → length (sequence (F ++ (surrogates ∷ [])) c) ≤ n
   pub are-bytes : (c : ℕ) → Bytes (sequence (F ++ (surrogates ∷ [])) c)
   pub none-beyond : (c : ℕ) → 0x10FFFF < c → sequence F c ≡ []
+
+pub wider : {F : Form} {n : ℕ} (m : ℕ) → n ≤ m → Writer F n → Writer F m
+wider m h W = record { low = W .low; some = W .some; most = λ c. omega (arith, W .most c); are-bytes = W .are-bytes; none-beyond = W .none-beyond }
 
 -- a code of the form's, or a surrogate that it does not have
 abbrev Lies : List Range → ℕ → Type 0
@@ -91,6 +95,13 @@ unfolding plain
 plain-writer =
     let S = plain-sound in
     writer plain scalars 4 (S .is-scalars) (S .is-ascending) (S .regular .is-open) (S .regular .is-proper) tt scalar-lies scalar-below (λ w c h l. plain-pattern w c .0 h .1)
+
+pub cesu-writer : Writer cesu 6
+unfolding cesu
+cesu-writer =
+    let S = cesu-sound in
+    writer cesu scalars 6 (S .is-scalars) (S .is-ascending) (S .regular .is-open) (S .regular .is-proper) tt scalar-lies scalar-below
+    (λ w c h l. cesu-patterned w c .0 h .1 ∙ cesu-short c l)
 
 pub surro-writer : Writer surro 4
 unfolding surro

@@ -1,12 +1,13 @@
 // The reader and the writer over packed codes: four bytes each, low byte first. The codes go through a small local array in stretches.
+use codings::Coding;
 use decode::Decoded;
 use encode::Encoded;
 ghost use mathlib.Core.Path.{_≡_};
 ghost use mathlib.Core.List.{_++_};
 ghost use Prim.Native.Nat.{_+_, _*_, _/_, _≤_, min};
 ghost use lib.ListN.{length, take, drop};
-ghost use Rattle.decode.specs.Reading.{decoding, decodedOf};
-ghost use Rattle.encode.specs.Writing.{encoding, encodedOf};
+ghost use Rattle.decode.specs.Reading.{decoding-in, decoding, decodedOf};
+ghost use Rattle.encode.specs.Writing.{encoding-in, encoding, encodedOf};
 ghost use Rattle.numbers.specs.Number.{low-first, over};
 ghost use Rattle.packed.specs.Bytes.{laid, codesOf};
 
@@ -63,29 +64,29 @@ fn gather(s: &[u8], codes: &mut [u32])
     }
 }
 
-fn decode_stretch(src: &[u8], codes: &mut [u8], flags: u32) -> Decoded
-    ensures answer { λ r. ⌜ r ≡ decodedOf (decoding flags (min (length (now (codes .entry)) / 4) 256) (now (src .entry))) ⌝ }
-    ensures output { λ _. ⌜ now (codes .exit) ≡ over (laid (decoding flags (min (length (now (codes .entry)) / 4) 256) (now (src .entry)) .codes)) (now (codes .entry)) ⌝ }
+fn decode_stretch(coding: Coding, src: &[u8], codes: &mut [u8], flags: u32) -> Decoded
+    ensures answer { λ r. ⌜ r ≡ decodedOf (decoding-in coding flags (min (length (now (codes .entry)) / 4) 256) (now (src .entry))) ⌝ }
+    ensures output { λ _. ⌜ now (codes .exit) ≡ over (laid (decoding-in coding flags (min (length (now (codes .entry)) / 4) 256) (now (src .entry)) .codes)) (now (codes .entry)) ⌝ }
 {
     let mut some = stretch();
     let room = lesser(codes.len() / 4, STRETCH);
-    let r = decode::decode(src, &mut some[..room], flags);
+    let r = decode::decode_in(coding, src, &mut some[..room], flags);
     let n = r.produced;
     lay(&some[..n], codes);
     r
 }
 
-// The reader, stretch after stretch, until it stops for anything but room or the whole room is full.
-pub fn decode_packed(src: &[u8], codes: &mut [u8], flags: u32) -> Decoded
-    ensures answer { λ r. ⌜ r ≡ decodedOf (decoding flags (length (now (codes .entry)) / 4) (now (src .entry))) ⌝ }
-    ensures output { λ _. ⌜ now (codes .exit) ≡ over (laid (decoding flags (length (now (codes .entry)) / 4) (now (src .entry)) .codes)) (now (codes .entry)) ⌝ }
+// The reader in a coding, stretch after stretch, until it stops for anything but room or the whole room is full.
+pub fn decode_packed_in(coding: Coding, src: &[u8], codes: &mut [u8], flags: u32) -> Decoded
+    ensures answer { λ r. ⌜ r ≡ decodedOf (decoding-in coding flags (length (now (codes .entry)) / 4) (now (src .entry))) ⌝ }
+    ensures output { λ _. ⌜ now (codes .exit) ≡ over (laid (decoding-in coding flags (length (now (codes .entry)) / 4) (now (src .entry)) .codes)) (now (codes .entry)) ⌝ }
 {
     let room = codes.len() / 4;
     let mut at: usize = 0;
     let mut n: usize = 0;
     loop {
         let from = n * 4;
-        let r = decode_stretch(&src[at..], &mut codes[from..], flags);
+        let r = decode_stretch(coding, &src[at..], &mut codes[from..], flags);
         at += r.consumed;
         n += r.produced;
         if r.number != 1 {
@@ -107,27 +108,35 @@ pub fn decode_packed(src: &[u8], codes: &mut [u8], flags: u32) -> Decoded
     }
 }
 
-fn encode_stretch(codes: &[u8], dst: &mut [u8], flags: u32) -> Encoded
-    ensures answer { λ r. ⌜ r ≡ encodedOf (encoding flags (length (now (dst .entry))) (take 256 (codesOf (now (codes .entry))))) ⌝ }
-    ensures output { λ _. ⌜ now (dst .exit) ≡ over (encoding flags (length (now (dst .entry))) (take 256 (codesOf (now (codes .entry)))) .written) (now (dst .entry)) ⌝ }
+// The reader in UTF-8.
+pub fn decode_packed(src: &[u8], codes: &mut [u8], flags: u32) -> Decoded
+    ensures answer { λ r. ⌜ r ≡ decodedOf (decoding flags (length (now (codes .entry)) / 4) (now (src .entry))) ⌝ }
+    ensures output { λ _. ⌜ now (codes .exit) ≡ over (laid (decoding flags (length (now (codes .entry)) / 4) (now (src .entry)) .codes)) (now (codes .entry)) ⌝ }
+{
+    decode_packed_in(Coding::Utf8, src, codes, flags)
+}
+
+fn encode_stretch(coding: Coding, codes: &[u8], dst: &mut [u8], flags: u32) -> Encoded
+    ensures answer { λ r. ⌜ r ≡ encodedOf (encoding-in coding flags (length (now (dst .entry))) (take 256 (codesOf (now (codes .entry))))) ⌝ }
+    ensures output { λ _. ⌜ now (dst .exit) ≡ over (encoding-in coding flags (length (now (dst .entry))) (take 256 (codesOf (now (codes .entry)))) .written) (now (dst .entry)) ⌝ }
 {
     let mut some = stretch();
     let n = lesser(codes.len() / 4, STRETCH);
     gather(codes, &mut some[..n]);
-    encode::encode(&some[..n], dst, flags)
+    encode::encode_in(coding, &some[..n], dst, flags)
 }
 
-// The writer, stretch after stretch, until it stops within one or no codes are left.
-pub fn encode_packed(codes: &[u8], dst: &mut [u8], flags: u32) -> Encoded
-    ensures answer { λ r. ⌜ r ≡ encodedOf (encoding flags (length (now (dst .entry))) (codesOf (now (codes .entry)))) ⌝ }
-    ensures output { λ _. ⌜ now (dst .exit) ≡ over (encoding flags (length (now (dst .entry))) (codesOf (now (codes .entry))) .written) (now (dst .entry)) ⌝ }
+// The writer in a coding, stretch after stretch, until it stops within one or no codes are left.
+pub fn encode_packed_in(coding: Coding, codes: &[u8], dst: &mut [u8], flags: u32) -> Encoded
+    ensures answer { λ r. ⌜ r ≡ encodedOf (encoding-in coding flags (length (now (dst .entry))) (codesOf (now (codes .entry)))) ⌝ }
+    ensures output { λ _. ⌜ now (dst .exit) ≡ over (encoding-in coding flags (length (now (dst .entry))) (codesOf (now (codes .entry))) .written) (now (dst .entry)) ⌝ }
 {
     let count = codes.len() / 4;
     let mut at: usize = 0;
     let mut n: usize = 0;
     loop {
         let from = at * 4;
-        let r = encode_stretch(&codes[from..], &mut dst[n..], flags);
+        let r = encode_stretch(coding, &codes[from..], &mut dst[n..], flags);
         at += r.consumed;
         n += r.produced;
         if r.number != 0 {
@@ -145,4 +154,12 @@ pub fn encode_packed(codes: &[u8], dst: &mut [u8], flags: u32) -> Encoded
             };
         }
     }
+}
+
+// The writer in UTF-8.
+pub fn encode_packed(codes: &[u8], dst: &mut [u8], flags: u32) -> Encoded
+    ensures answer { λ r. ⌜ r ≡ encodedOf (encoding flags (length (now (dst .entry))) (codesOf (now (codes .entry)))) ⌝ }
+    ensures output { λ _. ⌜ now (dst .exit) ≡ over (encoding flags (length (now (dst .entry))) (codesOf (now (codes .entry))) .written) (now (dst .entry)) ⌝ }
+{
+    encode_packed_in(Coding::Utf8, codes, dst, flags)
 }

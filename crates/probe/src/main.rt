@@ -1,6 +1,7 @@
 // Tries one call a line: a command on standard input, its answer on standard output. `probe --help` lists the commands.
 use advance::Answer;
 use back::Back;
+use codings::Coding;
 use decode::Decoded;
 use encode::Encoded;
 use libc::STDERR_FILENO;
@@ -389,16 +390,19 @@ fn put_read(produced: usize, codes: &[u32], room: usize, subpart: usize) {
     }
 }
 
-fn read_in(codes: &mut [u32], room: usize, bytes: &[u8], flags: u32) -> Decoded {
+fn read_in(coding: Coding, codes: &mut [u32], room: usize, bytes: &[u8], flags: u32) -> Decoded {
     let n = within_codes(room, codes);
-    decode::decode(bytes, &mut codes[..n], flags)
+    match coding {
+        Coding::Utf8 => decode::decode(bytes, &mut codes[..n], flags),
+        Coding::Cesu8 => decode::decode_in(coding, bytes, &mut codes[..n], flags),
+    }
 }
 
-fn read(s: &[u8]) {
+fn read(coding: Coding, s: &[u8]) {
     let mut bytes = byte_buffer();
     let mut codes = code_buffer();
     let m = bytes_of(word(s, b' ', 3), &mut bytes);
-    let r = read_in(&mut codes, room_of(s), &bytes[..m], flags_of(s));
+    let r = read_in(coding, &mut codes, room_of(s), &bytes[..m], flags_of(s));
     put_counts(r.number as usize, r.consumed);
     put_read(r.produced, &codes, room_of(s), r.subpart);
 }
@@ -448,16 +452,19 @@ fn put_written(produced: usize, bytes: &[u8], room: usize) {
     }
 }
 
-fn write_in(bytes: &mut [u8], room: usize, codes: &[u32], flags: u32) -> Encoded {
+fn write_in(coding: Coding, bytes: &mut [u8], room: usize, codes: &[u32], flags: u32) -> Encoded {
     let n = within_bytes(room, bytes);
-    encode::encode(codes, &mut bytes[..n], flags)
+    match coding {
+        Coding::Utf8 => encode::encode(codes, &mut bytes[..n], flags),
+        Coding::Cesu8 => encode::encode_in(coding, codes, &mut bytes[..n], flags),
+    }
 }
 
-fn write(s: &[u8]) {
+fn write(coding: Coding, s: &[u8]) {
     let mut codes = code_buffer();
     let mut bytes = byte_buffer();
     let m = codes_of(word(s, b' ', 3), &mut codes);
-    let r = write_in(&mut bytes, room_of(s), &codes[..m], flags_of(s));
+    let r = write_in(coding, &mut bytes, room_of(s), &codes[..m], flags_of(s));
     put_counts(r.number as usize, r.consumed);
     put_written(r.produced, &bytes, room_of(s));
 }
@@ -468,7 +475,8 @@ fn stepped(width: usize, state: State, input: &[u8]) -> Stepped {
     match width {
         0 => state.step8(input),
         1 => state.step16(input),
-        _ => state.step32(input),
+        2 => state.step32(input),
+        _ => state.step16_cesu8(input),
     }
 }
 
@@ -652,7 +660,7 @@ fn word_refusal(kinds: &[u8], s: &[u8]) -> usize {
 // The commands stand in the order of their numbers, and so do the kinds of words that each takes, below.
 fn command_of(s: &[u8]) -> usize {
     number_in(
-        b"read rest write step8 step16 step32 back reset start",
+        b"read rest write step8 step16 step32 back reset start cesu8-read cesu8-write cesu8-step16",
         word(s, b' ', 0),
     )
 }
@@ -669,23 +677,27 @@ fn refusal(s: &[u8], len: usize) -> usize {
         return REMARK;
     }
     let command = command_of(s);
-    if 8 < command {
+    if 11 < command {
         return UNKNOWN;
     }
-    let kinds = b"456 456 457 86 86 86 89 8 8";
+    let kinds = b"456 456 457 86 86 86 89 8 8 456 457 86";
     word_refusal(word(kinds, b' ', command), s)
 }
 
 fn obey(s: &[u8]) {
-    let command = command_of(s);
-    match command {
-        0 => read(s),
+    match command_of(s) {
+        0 => read(Coding::Utf8, s),
         1 => rest(s),
-        2 => write(s),
-        3..=5 => step(command - 3, s),
+        2 => write(Coding::Utf8, s),
+        3 => step(0, s),
+        4 => step(1, s),
+        5 => step(2, s),
         6 => back(s),
         7 => reset(s),
-        _ => start(s),
+        8 => start(s),
+        9 => read(Coding::Cesu8, s),
+        10 => write(Coding::Cesu8, s),
+        _ => step(3, s),
     }
 }
 
@@ -758,7 +770,7 @@ fn answer_all(chunk: &mut [u8], line: &mut [u8]) {
 fn help() {
     io::write_all(
         STDOUT_FILENO,
-        b"usage: probe, or probe --help\n\nTries one call a line. A command and what it answers:\n\n    read FLAGS ROOM BYTES    number consumed codes length\n    rest FLAGS ROOM BYTES    number codes length bytes (the reader's companion)\n    write FLAGS ROOM CODES   number consumed bytes\n    step8 RECORD BYTES       answer number unit consumed held length record\n    step16, step32           the same\n    back RECORD UNIT         answer number bytes count held record\n    reset RECORD             number record\n    start RECORD             yes or no\n\nFLAGS and ROOM are decimal, ROOM up to 65536. BYTES is hexadecimal pairs, CODES\nhexadecimal numbers with commas, - is none; RECORD is 16 bytes, UNIT one number.\nAfter a bad sequence held is how many bytes had been held, and length that of\nthe maximal subpart; - is none. A line begun by # is its own answer; one that\ncannot be read gets error: and why. An answer ends in beyond where the call\nchanged more than it gave.\n",
+        b"usage: probe, or probe --help\n\nTries one call a line. A command and what it answers:\n\n    read FLAGS ROOM BYTES    number consumed codes length\n    rest FLAGS ROOM BYTES    number codes length bytes (the reader's companion)\n    write FLAGS ROOM CODES   number consumed bytes\n    step8 RECORD BYTES       answer number unit consumed held length record\n    step16, step32           the same\n    back RECORD UNIT         answer number bytes count held record\n    reset RECORD             number record\n    start RECORD             yes or no\n    cesu8-read, cesu8-write, cesu8-step16    read, write, step16 in CESU-8\n\nFLAGS and ROOM are decimal, ROOM up to 65536. BYTES is hexadecimal pairs, CODES\nhexadecimal numbers with commas, - is none; RECORD is 16 bytes, UNIT one number.\nAfter a bad sequence held is how many bytes had been held, and length that of\nthe maximal subpart; - is none. A line begun by # is its own answer; one that\ncannot be read gets error: and why. An answer ends in beyond where the call\nchanged more than it gave.\n",
     );
 }
 

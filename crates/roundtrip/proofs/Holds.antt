@@ -1,4 +1,4 @@
--- Demand 3 holds of the calls of any form that read and write as the lists do. Assumes nothing.
+-- Demand 3 holds of the calls of every coding. Assumes nothing.
 use mathlib.Core.Path.{_≡_, refl, sym, ap, _∙_}
 use mathlib.Core.Logic.{_⊎_, inl, inr}
 use mathlib.Core.List.{List, [], _∷_}
@@ -8,32 +8,28 @@ use lib.ListN.{length, length-append}
 use Rattle.form.specs.Table.{Form, Scalar, Escape}
 use Rattle.form.specs.Text as Text
 use Rattle.form.specs.Text.{bytes, read, write, All, Bytes, Accepted}
-use Rattle.form.proofs.Tests.{Sound}
 use Rattle.form.proofs.Demand as Lists
 use Rattle.form.proofs.Demand.{write-bytes}
-use Rattle.form.proofs.Utf8.{plain-sound, scalar-below}
+use Rattle.form.proofs.Utf8.{scalar-below}
+use Rattle.codings.specs.declared.Coding.{Coding}
+use Rattle.codings.specs.Codings.{writer-form, runs}
+use Rattle.codings.proofs.Laws.{sound}
 use Rattle.decode.proofs.Theorems.{reads-all}
 use Rattle.encode.proofs.Theorems.{encoding-write}
-use Rattle.roundtrip.specs.Demand.{Calls, utf8, Reads, Writes, needs, CleanList, Demand3}
+use Rattle.roundtrip.specs.Demand.{Reads, Writes, needs, CleanList, Demand3}
 
--- the form passes the tests of demand 3, and with enough room the two calls are `read` and `write`
-pub record AsLists (C : Calls) : Type 0 where
-  pub sound : Sound (C .form) (C .runs)
-  pub reads : (r : ℕ) (s : List ℕ) → length s ≤ r → C .reader r s ≡ record { number = 0; consumed = length s; codes = read (C .form) s; subpart = 0 }
-  pub writes : (l : List ℕ) (w : ℕ) → Accepted l → length (write (C .form) l) ≤ w → C .writer w l ≡ record { number = 0; consumed = length l; written = write (C .form) l }
-
-module _ (C : Calls) (L : AsLists C) where
+module _ (K : Coding) where
   abbrev F : Form
-  F = C .form
+  F = writer-form K
 
-  pub lists : Text.Demand3 F (C .runs)
-  lists = Lists.demand3 F (C .runs) (L .sound)
+  pub lists : Text.Demand3 F (runs K)
+  lists = Lists.demand3 F (runs K) (sound K)
 
-  write-length : (l : List ℕ) → length (write F l) ≡ needs C l
+  write-length : (l : List ℕ) → length (write F l) ≡ needs K l
   write-length [] = refl
   write-length (c ∷ l) = length-append (bytes F c) (write F l) ∙ ap (λ (n : ℕ). length (bytes F c) + n) (write-length l)
 
-  clean-accepted : (l : List ℕ) → CleanList C l → Accepted l
+  clean-accepted : (l : List ℕ) → CleanList K l → Accepted l
   clean-accepted l h = go l (h .0)
     where
       below : (c : ℕ) → Scalar c ⊎ Escape c → c ≤ 0x10FFFF
@@ -46,34 +42,34 @@ module _ (C : Calls) (L : AsLists C) where
 
   -- the two calls are `read` and `write`
 
-  reads : (s : List ℕ) (r : ℕ) → length s ≤ r → Reads C r s (read F s)
-  reads s r h = rw (L .reads r s h) (refl, refl, refl)
+  reads : (s : List ℕ) (r : ℕ) → length s ≤ r → Reads K r s (read F s)
+  reads s r h = rw (reads-all K r s h) (refl, refl, refl)
 
-  is-read : (s l : List ℕ) (r : ℕ) → length s ≤ r → Reads C r s l → l ≡ read F s
+  is-read : (s l : List ℕ) (r : ℕ) → length s ≤ r → Reads K r s l → l ≡ read F s
   is-read s l r h g = sym (g .2) ∙ reads s r h .2
 
-  writes : (l : List ℕ) (w : ℕ) → Accepted l → needs C l ≤ w → Writes C w l (write F l)
-  writes l w a h = rw (L .writes l w a (omega (arith, write-length l))) (refl, refl, refl)
+  writes : (l : List ℕ) (w : ℕ) → Accepted l → needs K l ≤ w → Writes K w l (write F l)
+  writes l w a h = rw (encoding-write K l w a (omega (arith, write-length l))) (refl, refl, refl)
 
-  is-write : (l s : List ℕ) (w : ℕ) → Accepted l → needs C l ≤ w → Writes C w l s → s ≡ write F l
+  is-write : (l s : List ℕ) (w : ℕ) → Accepted l → needs K l ≤ w → Writes K w l s → s ≡ write F l
   is-write l s w a h g = sym (g .2) ∙ writes l w a h .2
 
   pub read-accepted : (s : List ℕ) → Bytes s → Accepted (read F s)
   read-accepted s b = clean-accepted (read F s) (lists .clean s b)
 
   -- a list that is read is written as those bytes
-  read-writes : (s l : List ℕ) (r w : ℕ) → Bytes s → length s ≤ r → Reads C r s l → needs C l ≤ w → Writes C w l s
+  read-writes : (s l : List ℕ) (r w : ℕ) → Bytes s → length s ≤ r → Reads K r s l → needs K l ≤ w → Writes K w l s
   read-writes s l r w b h g n =
       let e = is-read s l r h g in
       let a : Accepted l = rw e (read-accepted s b) in
       rw (ap (write F) e ∙ lists .exact s b) at (writes l w a n)
 
   -- what was written of an accepted list are bytes
-  written-bytes : (l s : List ℕ) (w : ℕ) → Accepted l → needs C l ≤ w → Writes C w l s → Bytes s
-  written-bytes l s w a n h = rw (is-write l s w a n h) (write-bytes F l (L .sound .regular .is-proper))
+  written-bytes : (l s : List ℕ) (w : ℕ) → Accepted l → needs K l ≤ w → Writes K w l s → Bytes s
+  written-bytes l s w a n h = rw (is-write l s w a n h) (write-bytes F l (sound K .regular .is-proper))
 
-  pub holds : Demand3 C
-  holds =
+  pub demand3 : Demand3 K
+  demand3 =
       record {
         clean = λ s r b h. (read F s, reads s r h, lists .clean s b);
         exact = read-writes;
@@ -81,7 +77,7 @@ module _ (C : Calls) (L : AsLists C) where
             λ s l k r w b h g c d n.
             let e = is-read s l r h g in
             (write F k, writes k w (clean-accepted k c) n, λ z. lists .only s k b c (λ y. d (y ∙ sym e)) z);
-        accepts = λ l w a n. (write F l, writes l w a n, write-bytes F l (L .sound .regular .is-proper));
+        accepts = λ l w a n. (write F l, writes l w a n, write-bytes F l (sound K .regular .is-proper));
         alike =
             λ l m s t a b v w r q al am nl nm wl wm h k ra rb.
             let e = is-write l s v al nl wl in
@@ -97,11 +93,3 @@ module _ (C : Calls) (L : AsLists C) where
             let e : t ≡ s = sym (wt .2) ∙ read-writes s a r v (written-bytes l s w al nl wl) h ra na .2 in
             rw (is-read s a r h ra ∙ ap (read F) (sym e)) (reads t q k);
       }
-
--- ---- plain UTF-8
-
-pub utf8-lists : AsLists utf8
-utf8-lists = record { sound = plain-sound; reads = reads-all; writes = encoding-write }
-
-pub demand3 : Demand3 utf8
-demand3 = holds utf8 utf8-lists

@@ -4,19 +4,20 @@ use mathlib.Core.List.{List, [], _∷_, map}
 use Prim.Native.Nat.{ℕ}
 use native.Mathlib.Omega.{arith}
 use Rattle.flags.specs.Number.{flagsOf, reader-refuses, writer-refuses}
+use Rattle.codings.specs.Codings.{reader-refuses-in, writer-refuses-in}
 use Rattle.form.specs.Table.{plain, surro, WellFormed, Escape}
 use Rattle.form.specs.Text.{All, unescape}
 use Rattle.form.proofs.Utf8.{plain-scans, plain-run, plain-demand3}
-use Rattle.decode.specs.Reading.{stopped, follow, decoding}
+use Rattle.decode.specs.Reading.{stopped, follow, decoding-in}
 use Rattle.encode.specs.Writing as Writing
-use Rattle.encode.specs.Writing.{refuses, bytes, after, encoding}
+use Rattle.encode.specs.Writing.{refuses, bytes, after, encoding-in}
 use Rattle.utf16.specs.Utf16.{utf16}
 use Rattle.state.specs.Meaning.{padded, recordOf, meaning, sense, senseOf}
 use Rattle.advance.specs.Step.{step}
 use Rattle.worked.specs.Lines.{Lines}
 
 pub lines : Lines
-unfolding plain surro flagsOf reader-refuses writer-refuses stopped follow decoding Writing.stopped refuses bytes after encoding utf16 padded recordOf meaning sense senseOf step
+unfolding plain surro flagsOf reader-refuses writer-refuses stopped follow decoding-in reader-refuses-in Writing.stopped refuses bytes after encoding-in writer-refuses-in utf16 padded recordOf meaning sense senseOf step
 lines =
     record {
       none = refl;

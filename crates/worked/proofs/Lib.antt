@@ -1,2 +1,3 @@
 pub mod Checked
+pub mod Cesu8
 pub mod Idle

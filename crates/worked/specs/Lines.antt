@@ -6,28 +6,29 @@ use lib.ListN.{length}
 use Rattle.form.specs.Table.{plain}
 use Rattle.decode.specs.Reading.{decoding}
 use Rattle.encode.specs.Writing.{encoding}
-use Rattle.roundtrip.specs.Demand.{utf8, CleanList}
+use Rattle.codings.specs.declared.Coding.the-variants.{Utf8}
+use Rattle.roundtrip.specs.Demand.{CleanList}
 use Rattle.advance.specs.Step.{continuation, incomplete, unit, Told, tell, tell-bad}
 use Rattle.restart.specs.Runs.{sixteen, answers, state-after}
 use Rattle.restart.specs.Packets.{start}
 
 -- flag numbers
-abbrev LAST : ℕ
+abbrev pub LAST : ℕ
 LAST = 1
 
 abbrev LAST+SURRO : ℕ
 LAST+SURRO = 3
 
-abbrev LAST+STRICT : ℕ
+abbrev pub LAST+STRICT : ℕ
 LAST+STRICT = 5
 
 abbrev LAST+SURRO+STRICT : ℕ
 LAST+SURRO+STRICT = 7
 
-abbrev SHOW : ℕ
+abbrev pub SHOW : ℕ
 SHOW = 8
 
-abbrev LAST+SHOW : ℕ
+abbrev pub LAST+SHOW : ℕ
 LAST+SHOW = 9
 
 abbrev LAST+SURRO+SHOW : ℕ
@@ -76,8 +77,8 @@ pub record Lines : Type 0 where
   -- the writer's line
   pub escapes-written : Writes 3 (0xDCE2 ∷ 0xDC80 ∷ 0xDCB2 ∷ []) (0xE2 ∷ 0x80 ∷ 0xB2 ∷ [])
   pub prime-written : Writes 3 (0x2032 ∷ []) (0xE2 ∷ 0x80 ∷ 0xB2 ∷ [])
-  pub prime-clean : CleanList utf8 (0x2032 ∷ [])
-  pub escapes-unclean : CleanList utf8 (0xDCE2 ∷ 0xDC80 ∷ 0xDCB2 ∷ []) → ⊥
+  pub prime-clean : CleanList Utf8 (0x2032 ∷ [])
+  pub escapes-unclean : CleanList Utf8 (0xDCE2 ∷ 0xDC80 ∷ 0xDCB2 ∷ []) → ⊥
   -- the droplet as 16-bit units
   pub droplet-units : Run ((0xF0 ∷ 0x9F ∷ 0x92 ∷ 0xA7 ∷ []) ∷ [] ∷ []) (tell unit 0 0xD83D 4 0 ∷ tell continuation 0 0xDCA7 0 0 ∷ [])
   -- the 16-bit step, whole run

@@ -48,7 +48,7 @@ filled g = search needs
 count : (g : tie.After-gather) → g .gather .result .count ≡ start g .args .s .count + taken (start g .args .s .count) (input (start g))
 count g = ap (λ (w : Window). w .count) (g .gather .ensures)
 
-count-few : (g : tie.After-gather) → g .gather .result .count ≤ 4
+count-few : (g : tie.After-gather) → g .gather .result .count ≤ 6
 count-few g = let s = start g in omega (arith, s .pre .few, count g)
 
 finds : (q : tie.After-front-of) (x : Front) → q .front-of .result ≡ x → Finds x (together (start (gathered q)))
@@ -94,7 +94,7 @@ returns-3 c =
     is-read s _ _ (c .done2 .ensures ∙ ap (λ (w : Window). with-next (Done Incomplete) (record { kind = 1; count = w .count; bytes = w .bytes })) (g .gather .ensures))
     (reads-some (form-scans (s .args .form)) (places s) (s .pre) (input s) (finds q _ (c .before .before .enum-told .given .1)) (λ e. c .before .if1 .left (count g ∙ e)))
 
-subpart-few : (q : tie.After-front-of) (n : ℕ) → q .front-of .result ≡ Variants.Bad n → n < 4
+subpart-few : (q : tie.After-front-of) (n : ℕ) → q .front-of .result ≡ Variants.Bad n → n < 6
 subpart-few q n e =
     let s = start (gathered q) in
     let (k, f, i) = finds q (Variants.Bad n) e in

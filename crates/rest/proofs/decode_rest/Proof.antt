@@ -5,6 +5,7 @@ use native.Mathlib.Omega.{arith}
 use lib.ListN.{length, drop}
 use borrow.Author.Needs.{needs}
 use borrow.Rule.Slice.PartAt.{part-to-end}
+use Rattle.codings.specs.declared.Coding.the-variants.{Utf8}
 use Rattle.decode.specs.declared.Decoded.{Decoded}
 use Rattle.decode.specs.Reading.{decodedOf}
 use Rattle.decode.proofs.Theorems.{within}
@@ -15,7 +16,7 @@ consumed-within : (c : tie.After-decode) → c .decode .result .consumed ≤ len
 unfolding decodedOf
 consumed-within c =
     let a = c .before .before .before .before .args in
-    rw (c .decode .ensures .0) (within (a .flags) (length (a .codes .now)) (a .s .now) .0)
+    rw (c .decode .ensures .0) (within Utf8 (a .flags) (length (a .codes .now)) (a .s .now) .0)
 
 returns : tie.Need-returns
 unfolding decodedOf
