@@ -1,12 +1,12 @@
 /*
- * libutf8b: UTF-8 to codes and back, with every byte kept.
+ * libutf8b: UTF-8 and CESU-8 to codes and back, with every byte kept.
  *
  * A code is four bytes, low byte first, on every machine.  A byte b at which no
  * well-formed sequence starts is read as the escape U+DC00 + b (U+DC80..U+DCFF),
  * and the escape is written back as that byte.
  *
  * What each call answers and leaves in its buffers is proved for every input
- * (crates/utf8b).  What is trusted at this boundary:
+ * (crates/utf8b, crates/utf8b_cesu8).  What is trusted at this boundary:
  *   - each pointer is good for its length, the input for reading, the others for
  *     reading and writing, and nothing else changes them during the call;
  *   - the buffers of one call do not overlap;
@@ -28,7 +28,7 @@ extern "C" {
 
 /* Flags, to be added up.  Any other bit is refused. */
 #define UTF8B_LAST 1u   /* no bytes follow: a sequence cut off at the end is bad bytes; changes nothing in the writer */
-#define UTF8B_SURRO 2u  /* surrogates U+D800..U+DFFF go through as three bytes, and no escape is written as its byte */
+#define UTF8B_SURRO 2u  /* surrogates U+D800..U+DFFF go through as three bytes, and no escape is written as its byte; refused in CESU-8 */
 #define UTF8B_STRICT 4u /* stop where the bytes or the code are bad */
 #define UTF8B_SHOW 8u   /* read each bad stretch as one U+FFFD; refused with UTF8B_STRICT, and by the writer */
 
@@ -36,7 +36,7 @@ extern "C" {
 #define UTF8B_BAD (-1)             /* bad at once, with nothing produced; the report's count is 0 */
 #define UTF8B_REFUSED_FLAGS (-4)   /* unknown or clashing flags */
 #define UTF8B_REFUSED_REPORT (-6)  /* report_len is not UTF8B_REPORT */
-#define UTF8B_REFUSED_CODES (-7)   /* utf8b_encode: codes_len is no multiple of 4 */
+#define UTF8B_REFUSED_CODES (-7)   /* writing: codes_len is no multiple of 4 */
 #define UTF8B_REFUSED_LENGTH (-8)  /* an input or output of more than UTF8B_LIMIT bytes */
 
 #define UTF8B_REPORT 9      /* bytes in a report: a count in 8, low byte first, and a length in 1 */
@@ -86,6 +86,27 @@ int64_t utf8b_encode(const uint8_t *codes, size_t codes_len,
                      uint8_t *dst, size_t dst_len,
                      uint32_t flags,
                      uint8_t *report, size_t report_len);
+
+/*
+ * The same in CESU-8 (Unicode Technical Report 26), in which a code above FFFF is six
+ * bytes: its high surrogate's three, then its low surrogate's.  Sequences of four bytes
+ * and lone surrogates are bad bytes there.  What differs:
+ *   - UTF8B_SURRO is refused;
+ *   - at most 5 bytes are left without UTF8B_LAST, and a bad stretch has 1 to 5;
+ *   - 6 bytes of room for each code are always enough to write.
+ *
+ * A bad stretch may end in the first byte of a sequence: ED A0 80 ED 9F BF has ED A0 80 ED
+ * in front, though ED 9F BF is U+D7FF.  Escapes stand for one byte each, so they give U+D7FF.
+ */
+int64_t utf8b_cesu8_decode(const uint8_t *src, size_t src_len,
+                           uint8_t *codes, size_t codes_len,
+                           uint32_t flags,
+                           uint8_t *report, size_t report_len);
+
+int64_t utf8b_cesu8_encode(const uint8_t *codes, size_t codes_len,
+                           uint8_t *dst, size_t dst_len,
+                           uint32_t flags,
+                           uint8_t *report, size_t report_len);
 
 /* What every caller needs of a report and of codes.  These are C, tested and not proved. */
 

@@ -26,6 +26,10 @@ static unsigned long compared, failures;
 int64_t enter(int decode, const uint8_t *in, size_t in_len, uint8_t *out, size_t out_len, uint32_t flags,
               uint8_t *report, size_t report_len)
 {
+    if (cesu8 && decode)
+        return utf8b_cesu8_decode(in, in_len, out, out_len, flags, report, report_len);
+    if (cesu8)
+        return utf8b_cesu8_encode(in, in_len, out, out_len, flags, report, report_len);
     if (decode)
         return utf8b_decode(in, in_len, out, out_len, flags, report, report_len);
     return utf8b_encode(in, in_len, out, out_len, flags, report, report_len);
@@ -41,8 +45,8 @@ static void show_bytes(const char *name, const uint8_t *s, size_t n)
 
 static void show_call(const struct call *c)
 {
-    printf("  utf8b_%s, flags %" PRIu32 ", out_len %zu, report_len %zu\n", c->decode ? "decode" : "encode", c->flags,
-           c->out_len, c->report_len);
+    printf("  utf8b_%s%s, flags %" PRIu32 ", out_len %zu, report_len %zu\n", cesu8 ? "cesu8_" : "",
+           c->decode ? "decode" : "encode", c->flags, c->out_len, c->report_len);
     show_bytes("input", c->in, c->in_len);
 }
 

@@ -1,5 +1,5 @@
 /*
- * The two entries of the archive, tested.  With the argument "small", a short run.
+ * The entries of the archive, tested: those of UTF-8, then those of CESU-8.  With the argument "small", a short run.
  */
 #include "tests.h"
 
@@ -22,8 +22,8 @@ size_t below(size_t n)
     return random32() % n;
 }
 
-const uint8_t border[BORDER] = {0x00, 0x41, 0x7F, 0x80, 0x8F, 0x90, 0x9F, 0xA0, 0xB2, 0xBF, 0xC0, 0xC1, 0xC2, 0xDF,
-                                0xE0, 0xE1, 0xEC, 0xED, 0xEE, 0xEF, 0xF0, 0xF1, 0xF3, 0xF4, 0xF5, 0xF8, 0xFF};
+const uint8_t border[BORDER] = {0x00, 0x41, 0x7F, 0x80, 0x8F, 0x90, 0x9F, 0xA0, 0xAF, 0xB0, 0xBF, 0xC0, 0xC1, 0xC2,
+                                0xDF, 0xE0, 0xE1, 0xEC, 0xED, 0xEE, 0xEF, 0xF0, 0xF1, 0xF3, 0xF4, 0xF5, 0xF8, 0xFF};
 
 const uint32_t border_codes[BORDER_CODES] = {
     0,      1,      0x7F,   0x80,   0x7FF,  0x800,  0xD7FF,  0xD800,   0xDBFF,   0xDC00,     0xDC7F,     0xDC80,
@@ -44,16 +44,15 @@ void try_call(int decode, const uint8_t *in, size_t in_len, size_t out_len, uint
     check_model(&c);
 }
 
-int main(int argc, char **argv)
+static void test_entries(void)
 {
-    small = argc > 1 && strcmp(argv[1], "small") == 0;
     test_lines();
-    test_header();
     test_refusals();
     test_flags();
     test_null();
     test_short_reads();
     test_random_reads();
+    test_pairs();
     test_short_writes();
     test_random_writes();
     test_stretches();
@@ -64,5 +63,13 @@ int main(int argc, char **argv)
         test_stack();
     }
     test_pieces();
+}
+
+int main(int argc, char **argv)
+{
+    small = argc > 1 && strcmp(argv[1], "small") == 0;
+    test_header();
+    for (cesu8 = 0; cesu8 < 2; cesu8++)
+        test_entries();
     return check_end();
 }

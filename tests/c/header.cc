@@ -35,9 +35,15 @@ int main()
     same(UTF8B_REFUSED_FLAGS, utf8b_encode(codes, 4, back, 20, UTF8B_SURRO | UTF8B_SHOW, report, UTF8B_REPORT), "flags");
     same(UTF8B_REFUSED_REPORT, utf8b_encode(codes, 4, back, 20, 0, report, UTF8B_REPORT - 1), "report");
     same(UTF8B_REFUSED_CODES, utf8b_encode(codes, 5, back, 20, 0, report, UTF8B_REPORT), "codes");
+    const uint8_t pair[] = {0xED, 0xA0, 0xBD, 0xED, 0xB2, 0xA7};
+    same(1, utf8b_cesu8_decode(pair, sizeof pair, codes, sizeof codes, UTF8B_LAST, report, sizeof report), "a pair read");
+    same(0x1F4A7, utf8b_code(codes, 0), "its code");
+    same(6, utf8b_cesu8_encode(codes, 4, back, sizeof back, 0, report, sizeof report), "a pair written");
+    same(0, std::memcmp(back, pair, sizeof pair), "its bytes");
+    same(UTF8B_REFUSED_FLAGS, utf8b_cesu8_encode(codes, 4, back, 20, UTF8B_SURRO, report, UTF8B_REPORT), "flags");
     static uint8_t long_input[UTF8B_LIMIT + 1];
     same(UTF8B_REFUSED_LENGTH, utf8b_decode(long_input, sizeof long_input, codes, 20, 0, report, UTF8B_REPORT), "length");
     if (differences == 0)
-        std::puts("15 answers compared, 0 differences");
+        std::puts("20 answers compared, 0 differences");
     return differences != 0;
 }

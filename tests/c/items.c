@@ -1,6 +1,8 @@
 /* Short inputs against the model, with every room about them. */
 #include "tests.h"
 
+#include <string.h>
+
 /* Short byte strings over the borders, every flag number and every room about them. */
 void test_short_reads(void)
 {
@@ -35,6 +37,25 @@ void test_random_reads(void)
     }
 }
 
+/* Surrogate pairs of three bytes each, with one byte or two changed, cut and whole. */
+void test_pairs(void)
+{
+    static const uint8_t pair[] = {0xED, 0xA0, 0xBD, 0xED, 0xB2, 0xA7, 'A'};
+
+    check_begin("pairs");
+    for (size_t i = 0; i < 6; i++)
+        for (size_t j = i; j < 6; j++)
+            for (size_t k = 0; k < (small ? 1 : BORDER * BORDER); k++) {
+                uint8_t s[7];
+
+                memcpy(s, pair, sizeof s);
+                s[j] = border[k / BORDER];
+                s[i] = border[k % BORDER];
+                for (size_t n = 1; n <= sizeof s; n++)
+                    try_call(DECODE, s, n, 4 * n, random32() % 12);
+            }
+}
+
 /* Border codes alone and in pairs, every flag number and every room about them. */
 void test_short_writes(void)
 {
@@ -42,7 +63,7 @@ void test_short_writes(void)
     for (size_t a = 0; a < BORDER_CODES; a++)
         for (size_t b = 0; b < (small ? 2 : BORDER_CODES); b++)
             for (uint32_t flags = 0; flags < 16; flags++)
-                for (size_t out_len = 0; out_len < 10; out_len++) {
+                for (size_t out_len = 0; out_len < 14; out_len++) {
                     uint8_t codes[8];
 
                     set_code(codes, 0, border_codes[a]);
@@ -63,6 +84,6 @@ void test_random_writes(void)
 
         for (size_t k = 0; k < n; k++)
             set_code(codes, k, below(4) ? border_codes[below(BORDER_CODES - 3 + below(8) / 6)] : random32() % 0x110800);
-        try_call(ENCODE, codes, 4 * n, below(4 * n + 4), random32() % 8);
+        try_call(ENCODE, codes, 4 * n, below(6 * n + 4), random32() % 8);
     }
 }

@@ -22,7 +22,7 @@ struct line {
 
 #define BYTES(s) (s), sizeof(s) - 1
 
-static const struct line lines[] = {
+static const struct line utf8_lines[] = {
     {DECODE, 1, 64, BYTES(""), 0, 0, 0, BYTES("")},
     {DECODE, 0, 0, BYTES(""), 0, 0, 0, BYTES("")},
     {DECODE, 1, 64, BYTES("\0"), 1, 1, 0, BYTES("\0\0\0\0")},
@@ -90,10 +90,38 @@ static const struct line lines[] = {
     {ENCODE, 2, 64, BYTES("\x80\xDC\0\0"), 3, 1, 0, BYTES("\xED\xB2\x80")},
 };
 
-void test_lines(void)
+static const struct line cesu8_lines[] = {
+    {DECODE, 1, 64, BYTES("40\xE2\x80\xB2"), 3, 5, 0, BYTES("4\0\0\0" "0\0\0\0" "\x32\x20\0\0")},
+    {DECODE, 1, 64, BYTES("\xED\xA0\xBD\xED\xB2\xA7"), 1, 6, 0, BYTES("\xA7\xF4\x01\0")},
+    {DECODE, 1, 64, BYTES("\xED\xAF\xBF\xED\xBF\xBF"), 1, 6, 0, BYTES("\xFF\xFF\x10\0")},
+    {DECODE, 1, 64, BYTES("\xF0\x9F\x92\xA7"), 4, 4, 0, BYTES("\xF0\xDC\0\0\x9F\xDC\0\0\x92\xDC\0\0\xA7\xDC\0\0")},
+    {DECODE, 1, 64, BYTES("\xED\xA0\x80"), 3, 3, 0, BYTES("\xED\xDC\0\0\xA0\xDC\0\0\x80\xDC\0\0")},
+    {DECODE, 0, 64, BYTES("\xED\xA0\x80"), 0, 0, 0, BYTES("")},
+    {DECODE, 0, 64, BYTES("\xED\xB0\x80"), 3, 3, 0, BYTES("\xED\xDC\0\0\xB0\xDC\0\0\x80\xDC\0\0")},
+    {DECODE, 0, 64, BYTES("\xED\xA0\x80\xED"), 0, 0, 0, BYTES("")},
+    {DECODE, 0, 64, BYTES("A\xED\xA0\x80\xED\xB0"), 1, 1, 0, BYTES("A\0\0\0")},
+    {DECODE, 1, 64, BYTES("\xED\xA0\x80" "A"), 4, 4, 0, BYTES("\xED\xDC\0\0\xA0\xDC\0\0\x80\xDC\0\0" "A\0\0\0")},
+    {DECODE, 1, 64, BYTES("\xED\xA0\x80\xED\x9F\xBF"), 4, 6, 0, BYTES("\xED\xDC\0\0\xA0\xDC\0\0\x80\xDC\0\0\xFF\xD7\0\0")},
+    {DECODE, 9, 64, BYTES("\xED\xA0\x80\xED\x9F\xBF"), 3, 6, 0, BYTES("\xFD\xFF\0\0\xFD\xFF\0\0\xFD\xFF\0\0")},
+    {DECODE, 5, 64, BYTES("\xED\xA0\x80\xED\x9F\xBF"), -1, 0, 4, BYTES("")},
+    {DECODE, 5, 64, BYTES("A\xED\xA0\x80\xED\xB0"), 1, 1, 5, BYTES("A\0\0\0")},
+    {DECODE, 4, 64, BYTES("\xF0\x90\x80\x80"), -1, 0, 1, BYTES("")},
+    {DECODE, 1, 64, BYTES("\xED\xA0\x80\xED\xA0\x80\xED\xB0\x80"), 4, 9, 0,
+     BYTES("\xED\xDC\0\0\xA0\xDC\0\0\x80\xDC\0\0" "\0\0\x01\0")},
+    {DECODE, 1, 3, BYTES("\xED\xA0\xBD\xED\xB2\xA7"), 0, 0, 0, BYTES("")},
+    {ENCODE, 0, 64, BYTES("\0\0\x01\0"), 6, 1, 0, BYTES("\xED\xA0\x80\xED\xB0\x80")},
+    {ENCODE, 0, 5, BYTES("\0\0\x01\0"), 0, 0, 0, BYTES("")},
+    {ENCODE, 0, 64, BYTES("\x80\xDC\0\0"), 1, 1, 0, BYTES("\x80")},
+    {ENCODE, 0, 64, BYTES("\0\xD8\0\0"), 3, 1, 0, BYTES("\xED\xA0\x80")},
+    {ENCODE, 0, 64, BYTES("\0\xD8\0\0\0\xDC\0\0"), 6, 2, 0, BYTES("\xED\xA0\x80\xED\xB0\x80")},
+    {ENCODE, 0, 64, BYTES("\0\0\x11\0"), -1, 0, 0, BYTES("")},
+    {ENCODE, 4, 64, BYTES("\0\xD8\0\0"), -1, 0, 0, BYTES("")},
+    {ENCODE, 4, 64, BYTES("A\0\0\0\x80\xDC\0\0"), 1, 1, 0, BYTES("A")},
+};
+
+static void check_lines(const struct line *lines, size_t n)
 {
-    check_begin("lines");
-    for (size_t i = 0; i < sizeof lines / sizeof lines[0]; i++) {
+    for (size_t i = 0; i < n; i++) {
         const struct line *l = &lines[i];
         struct call c = {l->decode, l->flags, (const uint8_t *)l->in, l->in_len, l->out_len, REPORT};
         uint8_t out[64];
@@ -103,6 +131,15 @@ void test_lines(void)
         check_call(&c, &o);
         check_model(&c);
     }
+}
+
+void test_lines(void)
+{
+    check_begin("lines");
+    if (cesu8)
+        check_lines(cesu8_lines, sizeof cesu8_lines / sizeof cesu8_lines[0]);
+    else
+        check_lines(utf8_lines, sizeof utf8_lines / sizeof utf8_lines[0]);
 }
 
 /* The header's own functions. */

@@ -4,6 +4,8 @@
 
 #include <string.h>
 
+int cesu8;
+
 /* The table of well-formed sequences; a later byte is 80..BF unless it is the second. */
 static const struct row {
     uint8_t first, last, second_first, second_last;
@@ -29,12 +31,25 @@ static int second_fits(const struct row *r, uint8_t first, uint8_t second, uint3
     return r->second_first <= second && second <= last;
 }
 
+/* Whether s begins like a high and a low surrogate of three bytes each. */
+static int begins_pair(const uint8_t *s, size_t n)
+{
+    static const uint8_t first[] = {0xED, 0xA0, 0x80, 0xED, 0xB0, 0x80}, last[] = {0xED, 0xAF, 0xBF, 0xED, 0xBF, 0xBF};
+
+    for (size_t i = 0; i < n && i < 6; i++)
+        if (s[i] < first[i] || last[i] < s[i])
+            return 0;
+    return 1;
+}
+
 /* The length of the sequence that starts s if s begins like one, else 0; n is at least 1. */
 static size_t sequence(const uint8_t *s, size_t n, uint32_t flags)
 {
     const struct row *r = row_of(s[0]);
 
-    if (!r)
+    if (cesu8 && begins_pair(s, n))
+        return 6;
+    if (!r || (cesu8 && r->length == 4))
         return 0;
     for (size_t i = 1; i < r->length && i < n; i++)
         if (i == 1 ? !second_fits(r, s[0], s[1], flags) : (s[i] & 0xC0) != 0x80)
@@ -47,7 +62,7 @@ static uint8_t maximal_subpart(const uint8_t *s, size_t n, uint32_t flags)
 {
     uint8_t longest = 1;
 
-    for (uint8_t k = 2; k <= n && k <= 4; k++)
+    for (uint8_t k = 2; k <= n && k <= 6; k++)
         if (sequence(s, k, flags) >= k)
             longest = k;
     return longest;
@@ -58,6 +73,8 @@ static uint32_t code_of(const uint8_t *s, size_t length)
     static const uint32_t offset[] = {0, 0, 0x3080, 0xE2080, 0x3C82080};
     uint32_t sum = 0;
 
+    if (length == 6)
+        return 0x10000 + (s[1] - 0xA0u) * 0x10000 + (s[2] - 0x80u) * 0x400 + (s[4] - 0xB0u) * 0x40 + (s[5] - 0x80u);
     for (size_t i = 0; i < length; i++)
         sum = sum * 64 + s[i];
     return sum - offset[length];
@@ -124,6 +141,13 @@ static int read_codes(const struct call *c, struct outcome *o)
     return number;
 }
 
+static void three_bytes(uint32_t code, uint8_t *b)
+{
+    b[0] = (uint8_t)(0xE0 + code / 4096);
+    b[1] = (uint8_t)(0x80 + code / 64 % 64);
+    b[2] = (uint8_t)(0x80 + code % 64);
+}
+
 /* The bytes of a code, or none if it is refused. */
 static size_t bytes_of(uint32_t code, uint32_t flags, uint8_t *b)
 {
@@ -146,10 +170,13 @@ static size_t bytes_of(uint32_t code, uint32_t flags, uint8_t *b)
         return 2;
     }
     if (code < 0x10000) {
-        b[0] = (uint8_t)(0xE0 + code / 4096);
-        b[1] = (uint8_t)(0x80 + code / 64 % 64);
-        b[2] = (uint8_t)(0x80 + code % 64);
+        three_bytes(code, b);
         return 3;
+    }
+    if (cesu8) {
+        three_bytes(0xD800 + (code - 0x10000) / 1024, b);
+        three_bytes(0xDC00 + (code - 0x10000) % 1024, b + 3);
+        return 6;
     }
     b[0] = (uint8_t)(0xF0 + code / 262144);
     b[1] = (uint8_t)(0x80 + code / 4096 % 64);
@@ -165,7 +192,7 @@ static int write_bytes(const struct call *c, struct outcome *o)
     int number = 0;
 
     while (i < c->in_len / 4) {
-        uint8_t b[4];
+        uint8_t b[6];
         size_t n = bytes_of(code_at(c->in, i), c->flags, b);
 
         if (n == 0 || c->out_len - made < n) {
@@ -184,6 +211,8 @@ static int write_bytes(const struct call *c, struct outcome *o)
 
 static int flags_refused(const struct call *c)
 {
+    if (cesu8 && (c->flags & UTF8B_SURRO))
+        return 1;
     if (c->decode)
         return c->flags > 15 || ((c->flags & UTF8B_STRICT) && (c->flags & UTF8B_SHOW));
     return c->flags > 7;

@@ -1,9 +1,12 @@
-/* What the two entries have to do, written plainly and slowly. */
+/* What the entries have to do, written plainly and slowly. */
 #ifndef MODEL_H
 #define MODEL_H
 
 #include <stddef.h>
 #include <stdint.h>
+
+/* Set for CESU-8's entries, which all calls then go to. */
+extern int cesu8;
 
 /* One call of an entry: reading if decode is set, else writing. */
 struct call {

@@ -1,6 +1,7 @@
 /* What is refused, and in which order; empty buffers and the largest ones. */
 #define _DEFAULT_SOURCE
 #include "tests.h"
+#include "utf8b.h"
 
 #include <stdio.h>
 #include <string.h>
@@ -12,7 +13,7 @@ void test_refusals(void)
     static const size_t reports[] = {0, 1, 8, 9, 10, 16, LIMIT + 8};
     static const size_t inputs[] = {0, 4, 6, LIMIT, LIMIT + 1, LIMIT + 3, LIMIT + 4};
     static const size_t outputs[] = {0, 9, LIMIT, LIMIT + 1, LIMIT + 4};
-    static const uint32_t flags[] = {0, 8, 12, 0x80000000u};
+    static const uint32_t flags[] = {0, 2, 8, 12, 0x80000000u};
     static uint8_t in[LIMIT + 4];
 
     check_begin("refusals");
@@ -21,7 +22,7 @@ void test_refusals(void)
         for (size_t r = 0; r < (small ? 6 : 7); r++)
             for (size_t i = 0; i < (small ? 3 : 7); i++)
                 for (size_t o = 0; o < (small ? 2 : 5); o++)
-                    for (size_t f = 0; f < 4; f++) {
+                    for (size_t f = 0; f < 5; f++) {
                         struct call c = {decode, flags[f], in, inputs[i], outputs[o], reports[r]};
 
                         check_model(&c);
@@ -54,6 +55,8 @@ void test_null(void)
     memset(kept, 0xA5, REPORT);
     for (int decode = 0; decode < 2; decode++) {
         for (uint32_t flags = 0; flags < 8; flags++) {
+            if (cesu8 && (flags & UTF8B_SURRO))
+                continue;
             memset(out, 0xA5, REPORT);
             memset(report, 0xA5, REPORT);
             check_that(enter(decode, NULL, 0, out, 8, flags, report, REPORT) == 0, "null input: answer 0");

@@ -1,4 +1,4 @@
-/* The tests of the two entries, and what they share. */
+/* The tests of the entries, and what they share. */
 #ifndef TESTS_H
 #define TESTS_H
 
@@ -14,7 +14,7 @@ uint32_t random32(void);
 size_t below(size_t n);
 
 /* Bytes and codes next to the borders of the table. */
-enum { BORDER = 27, BORDER_CODES = 23 };
+enum { BORDER = 28, BORDER_CODES = 23 };
 extern const uint8_t border[BORDER];
 extern const uint32_t border_codes[BORDER_CODES];
 
@@ -33,6 +33,7 @@ void test_limits(void);
 void test_huge_lengths(void);
 void test_short_reads(void);
 void test_random_reads(void);
+void test_pairs(void);
 void test_short_writes(void);
 void test_random_writes(void);
 void test_stretches(void);

@@ -1,17 +1,16 @@
 -- The theorems at CESU-8: each test is computed here. Assumes nothing.
-use mathlib.Core.Path.{_≡_, refl, sym, ap, _∙_}
-use mathlib.Core.Logic.{_⊎_, inl, inr, ⊎-elim, _↔_}
+use mathlib.Core.Path.{_≡_, refl, sym, _∙_}
+use mathlib.Core.Logic.{_⊎_, ⊎-elim, _↔_}
 use mathlib.Core.List.{List, [], _∷_, _++_, map, List·Memᴰ}
 use Prim.Native.Nat.{ℕ, _+_, _-_, _*_, _/_, _%_, _≤_, _<_}
 use native.Mathlib.Omega.{arith}
-use lib.Dec.{T}
 use lib.ListN.{length}
 use borrow.Author.Tests.{lt-ltb, le-ltb}
-use Rattle.form.specs.Table.{Range, _to_, tail, short-rows, pairs, cesu, In, Codes, WellFormed, scalars, Scalar, Escape}
+use Rattle.form.specs.Table.{_to_, tail, short-rows, pairs, cesu, In, Codes, WellFormed, scalars, Scalar, Escape}
 use Rattle.form.specs.Pattern.{bits, pattern, cesu-pattern}
 use Rattle.form.specs.Text.{All, unescape, sequence, Demand3, cesu-runs}
 use Rattle.form.proofs.Tests.{Sound}
-use Rattle.form.proofs.Codes.{codes-sequence, patterned, codes-append}
+use Rattle.form.proofs.Codes.{patterned, codes-append}
 use Rattle.form.proofs.Sequences.{no-sequence}
 use Rattle.form.proofs.Pattern.{each-row, Shape, shape-bits, shape-pattern}
 use Rattle.form.proofs.Runs.{run-length}

@@ -8,11 +8,12 @@ use lib.Dec.{eqb}
 use lib.ListN.{length, take}
 use lib.Seq.{take-length, take-take, take-append-seam}
 use borrow.Author.Tests.{eqb-true}
-use Rattle.form.specs.Table.{Form, plain, In, Codes, Scalar}
+use Rattle.form.specs.Table.{Form, plain, cesu, In, Codes, Scalar}
 use Rattle.form.specs.Scan.{well}
 use Rattle.form.specs.Text.{sequence}
 use Rattle.form.proofs.Rows.{true-in, false-in}
 use Rattle.form.proofs.Sequences.{scalar-outside}
+use Rattle.form.proofs.Cesu.{cesu-form}
 use Rattle.form.proofs.EncodingForms.{EncodingForm, plain-form}
 use Rattle.utf16.specs.Utf16.{highs, lows, utf16, paired}
 use Rattle.utf16.proofs.Laws.{Coded, alone, pair, scalar-units}
@@ -196,3 +197,7 @@ pub back-and-there : (c : ℕ) (is : List (List ℕ)) → Scalar c → suc (leng
     → map (λ (t : Told). t .unit) (answers plain sixteen start (bytes-back start (utf16 c) ∷ is)) ≡ utf16 c
 back-and-there c is s l =
     whole plain-form fits sixteen (bytes-back start (utf16 c)) c is (rw (back c s .0) (plain-form .some c s)) l .0
+
+pub cesu8-to-utf8 : (w : List ℕ) (c : ℕ) (is : List (List ℕ)) → Codes cesu w c → suc (length is) ≡ length (utf16 c)
+    → bytes-back start (map (λ (t : Told). t .unit) (answers cesu sixteen start (w ∷ is))) ≡ sequence plain c
+cesu8-to-utf8 w c is d l = ap (bytes-back start) (whole cesu-form (omega arith) sixteen w c is d l .0) ∙ back c (cesu-form .scalar w c d) .0

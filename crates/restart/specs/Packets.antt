@@ -3,7 +3,7 @@ use mathlib.Core.Path.{_≡_}
 use mathlib.Core.List.{List, [], _∷_, _++_, map}
 use Prim.Native.Nat.{ℕ, suc, _+_, _-_, _≤_}
 use lib.ListN.{length}
-use Rattle.form.specs.Table.{Form, plain, Codes, Scalar}
+use Rattle.form.specs.Table.{Form, plain, cesu, Codes, Scalar}
 use Rattle.form.specs.Text.{sequence}
 use Rattle.utf16.specs.Utf16.{utf16}
 use Rattle.state.specs.Meaning.{Meaning, starting, Valid, valid, recordOf, senseOf}
@@ -67,3 +67,5 @@ pub record ThereAndBack : Type 0 where
   -- so that it is the inverse of the 16-bit step
   pub there-and-back : (w : List ℕ) (c : ℕ) (is : List (List ℕ)) → Codes plain w c → suc (length is) ≡ length (utf16 c) → bytes-back start (map (λ (t : Told). t .unit) (answers plain sixteen start (w ∷ is))) ≡ w
   pub back-and-there : (c : ℕ) (is : List (List ℕ)) → Scalar c → suc (length is) ≡ length (utf16 c) → map (λ (t : Told). t .unit) (answers plain sixteen start (bytes-back start (utf16 c) ∷ is)) ≡ utf16 c
+  -- and turns what the step of CESU-8 gives into UTF-8
+  pub cesu8-to-utf8 : (w : List ℕ) (c : ℕ) (is : List (List ℕ)) → Codes cesu w c → suc (length is) ≡ length (utf16 c) → bytes-back start (map (λ (t : Told). t .unit) (answers cesu sixteen start (w ∷ is))) ≡ sequence plain c

@@ -4,7 +4,7 @@ use mathlib.Core.List.{List, [], _∷_}
 use Prim.Native.Nat.{ℕ}
 use lib.ListN.{length}
 use Rattle.form.specs.Table.{plain, cesu}
-use Rattle.state.specs.Meaning.{held, low, recordOf}
+use Rattle.state.specs.Meaning.{held, recordOf}
 use Rattle.codings.specs.declared.Coding.the-variants.{Cesu8}
 use Rattle.decode.specs.Reading.{decoding-in}
 use Rattle.encode.specs.Writing.{encoding-in}

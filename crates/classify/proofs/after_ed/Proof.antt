@@ -1,5 +1,5 @@
 -- Each arm is computed at its table. Assumes nothing.
-use mathlib.Core.Path.{_≡_, refl, sym, ap}
+use mathlib.Core.Path.{sym, ap}
 use borrow.Author.Needs.{needs}
 use Rattle.form.specs.Table.{plain, surro, cesu}
 use Rattle.form.specs.Scan.{after}

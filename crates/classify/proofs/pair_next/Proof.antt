@@ -1,5 +1,5 @@
 -- Each arm is the row of its stages. Assumes nothing.
-use mathlib.Core.Path.{refl, sym, ap, _∙_}
+use mathlib.Core.Path.{_≡_, refl, sym, ap, _∙_}
 use Prim.Native.Nat.{ℕ}
 use mathlib.Core.List.{[], _∷_}
 use native.Mathlib.Omega.{arith}
@@ -7,7 +7,7 @@ use borrow.Author.Needs.{needs}
 use Rattle.form.specs.Table.{_to_, tail}
 use Rattle.form.specs.Scan.{after}
 use Rattle.classify.specs.Stage.{stages, left, stageOf}
-use Rattle.classify.proofs.Stages.{next-in, next-out}
+use Rattle.classify.proofs.Stages.{next-in}
 use Rattle.classify.proofs.pair_next.Statement.{statement}
 use Rattle.classify.proofs.pair_next.Tie as tie
 
@@ -26,10 +26,10 @@ returns-3 c = let a = c .before .before .args in c .within2 .ensures ∙ next-in
 
 returns-4 : tie.Need-returns-4
 unfolding stages left stageOf
-returns-4 c = let a = c .before .before .args in c .within3 .ensures ∙ next-in (a .stage) 12 (a .b) 2 (0xB0 to 0xBF) (tail ∷ []) (c .before .match .keys4) refl refl
-
-returns-5 : tie.Need-returns-5
-returns-5 c = let s = c .before in next-out (s .args .stage) (s .args .b) (λ h. omega (arith, s .pre))
+returns-4 c =
+    let s = c .before .before in
+    let e : s .args .stage ≡ 12 = omega (arith, s .pre) in
+    c .within3 .ensures ∙ next-in (s .args .stage) 12 (s .args .b) 2 (0xB0 to 0xBF) (tail ∷ []) e refl refl
 
 pub pair-next-spec : {M : Type 1} → statement M
 pair-next-spec =
@@ -42,5 +42,4 @@ pair-next-spec =
     returns
     returns-2
     returns-3
-    returns-4
-    returns-5)
+    returns-4)
