@@ -55,7 +55,7 @@ pub fn decode_entry(
     if LIMIT < codes.len() {
         return -8;
     }
-    let r = packed::decode_packed_in(coding, src, codes, flags);
+    let r = packed::decode_packed(coding, src, codes, flags);
     if r.number == 4 {
         return -4;
     }
@@ -86,7 +86,7 @@ pub fn encode_entry(
     if codes.len() % 4 != 0 {
         return -7;
     }
-    let r = packed::encode_packed_in(coding, codes, dst, flags);
+    let r = packed::encode_packed(coding, codes, dst, flags);
     if r.number == 4 {
         return -4;
     }

@@ -6,8 +6,8 @@ ghost use mathlib.Core.Path.{_≡_};
 ghost use mathlib.Core.List.{_++_};
 ghost use Prim.Native.Nat.{_+_, _*_, _/_, _≤_, min};
 ghost use lib.ListN.{length, take, drop};
-ghost use Rattle.decode.specs.Reading.{decoding-in, decoding, decodedOf};
-ghost use Rattle.encode.specs.Writing.{encoding-in, encoding, encodedOf};
+ghost use Rattle.decode.specs.Reading.{decoding-in, decodedOf};
+ghost use Rattle.encode.specs.Writing.{encoding-in, encodedOf};
 ghost use Rattle.numbers.specs.Number.{low-first, over};
 ghost use Rattle.packed.specs.Bytes.{laid, codesOf};
 
@@ -77,7 +77,7 @@ fn decode_stretch(coding: Coding, src: &[u8], codes: &mut [u8], flags: u32) -> D
 }
 
 // The reader in a coding, stretch after stretch, until it stops for anything but room or the whole room is full.
-pub fn decode_packed_in(coding: Coding, src: &[u8], codes: &mut [u8], flags: u32) -> Decoded
+pub fn decode_packed(coding: Coding, src: &[u8], codes: &mut [u8], flags: u32) -> Decoded
     ensures answer { λ r. ⌜ r ≡ decodedOf (decoding-in coding flags (length (now (codes .entry)) / 4) (now (src .entry))) ⌝ }
     ensures output { λ _. ⌜ now (codes .exit) ≡ over (laid (decoding-in coding flags (length (now (codes .entry)) / 4) (now (src .entry)) .codes)) (now (codes .entry)) ⌝ }
 {
@@ -108,14 +108,6 @@ pub fn decode_packed_in(coding: Coding, src: &[u8], codes: &mut [u8], flags: u32
     }
 }
 
-// The reader in UTF-8.
-pub fn decode_packed(src: &[u8], codes: &mut [u8], flags: u32) -> Decoded
-    ensures answer { λ r. ⌜ r ≡ decodedOf (decoding flags (length (now (codes .entry)) / 4) (now (src .entry))) ⌝ }
-    ensures output { λ _. ⌜ now (codes .exit) ≡ over (laid (decoding flags (length (now (codes .entry)) / 4) (now (src .entry)) .codes)) (now (codes .entry)) ⌝ }
-{
-    decode_packed_in(Coding::Utf8, src, codes, flags)
-}
-
 fn encode_stretch(coding: Coding, codes: &[u8], dst: &mut [u8], flags: u32) -> Encoded
     ensures answer { λ r. ⌜ r ≡ encodedOf (encoding-in coding flags (length (now (dst .entry))) (take 256 (codesOf (now (codes .entry))))) ⌝ }
     ensures output { λ _. ⌜ now (dst .exit) ≡ over (encoding-in coding flags (length (now (dst .entry))) (take 256 (codesOf (now (codes .entry)))) .written) (now (dst .entry)) ⌝ }
@@ -127,7 +119,7 @@ fn encode_stretch(coding: Coding, codes: &[u8], dst: &mut [u8], flags: u32) -> E
 }
 
 // The writer in a coding, stretch after stretch, until it stops within one or no codes are left.
-pub fn encode_packed_in(coding: Coding, codes: &[u8], dst: &mut [u8], flags: u32) -> Encoded
+pub fn encode_packed(coding: Coding, codes: &[u8], dst: &mut [u8], flags: u32) -> Encoded
     ensures answer { λ r. ⌜ r ≡ encodedOf (encoding-in coding flags (length (now (dst .entry))) (codesOf (now (codes .entry)))) ⌝ }
     ensures output { λ _. ⌜ now (dst .exit) ≡ over (encoding-in coding flags (length (now (dst .entry))) (codesOf (now (codes .entry))) .written) (now (dst .entry)) ⌝ }
 {
@@ -154,12 +146,4 @@ pub fn encode_packed_in(coding: Coding, codes: &[u8], dst: &mut [u8], flags: u32
             };
         }
     }
-}
-
-// The writer in UTF-8.
-pub fn encode_packed(codes: &[u8], dst: &mut [u8], flags: u32) -> Encoded
-    ensures answer { λ r. ⌜ r ≡ encodedOf (encoding flags (length (now (dst .entry))) (codesOf (now (codes .entry)))) ⌝ }
-    ensures output { λ _. ⌜ now (dst .exit) ≡ over (encoding flags (length (now (dst .entry))) (codesOf (now (codes .entry))) .written) (now (dst .entry)) ⌝ }
-{
-    encode_packed_in(Coding::Utf8, codes, dst, flags)
 }

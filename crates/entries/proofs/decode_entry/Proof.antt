@@ -32,7 +32,7 @@ returns-3 : tie.Need-returns-3
 unfolding decode-entry-in
 returns-3 c = simp (eq-eqb _ _ (c .before .before .if1 .left), le-leb _ _ (c .before .if2 .left), lt-leb _ _ (c .if3 .taken))
 
-module _ (c : tie.After-decode-packed-in) where
+module _ (c : tie.After-decode-packed) where
   abbrev start : tie.Start
   start = c .before .before .before .before .before .before .before .before
 
@@ -43,30 +43,30 @@ module _ (c : tie.After-decode-packed-in) where
       ≡ decode-entry-in (start .args .coding) (start .args .src .now) (start .args .codes .now) (start .args .flags) (start .args .report .now)
   gives = decode-given (start .args .coding) (start .args .src .now) (start .args .codes .now) (start .args .report .now) (start .args .flags) (c .before .before .before .before .if1 .left) (c .before .before .before .if2 .left) (c .before .before .if3 .left)
 
-  number : R .number ≡ c .decode-packed-in .result .number
+  number : R .number ≡ c .decode-packed .result .number
   unfolding decodedOf
-  number = sym (ap (λ (x : Decoded). x .number) (c .decode-packed-in .ensures .0))
+  number = sym (ap (λ (x : Decoded). x .number) (c .decode-packed .ensures .0))
 
   none : R .number ≡ 4 → laid (R .codes) ≡ []
   unfolding stopped
   none e = ap (λ (X : Reading). laid (X .codes)) (refused-nothing _ _ _ _ (refused-exactly _ _ _ _ .0 e))
 
-  few : c .decode-packed-in .result .produced ≤ 1048576
+  few : c .decode-packed .result .produced ≤ 1048576
   unfolding decodedOf
-  few = rw (c .decode-packed-in .ensures .0) (omega (arith, within (start .args .coding) (start .args .flags) (length (start .args .codes .now) / 4) (start .args .src .now) .1, c .before .before .if3 .left))
+  few = rw (c .decode-packed .ensures .0) (omega (arith, within (start .args .coding) (start .args .flags) (length (start .args .codes .now) / 4) (start .args .src .now) .1, c .before .before .if3 .left))
 
-  short : c .decode-packed-in .result .subpart < 256
+  short : c .decode-packed .result .subpart < 256
   unfolding decodedOf
-  short = rw (c .decode-packed-in .ensures .0) (omega (arith, subpart-few (start .args .coding) (start .args .flags) (length (start .args .codes .now) / 4) (start .args .src .now), longest-few (start .args .coding)))
+  short = rw (c .decode-packed .ensures .0) (omega (arith, subpart-few (start .args .coding) (start .args .flags) (length (start .args .codes .now) / 4) (start .args .src .now), longest-few (start .args .coding)))
 
 returns-5 : tie.Need-returns-5
 unfolding decodedOf
 returns-5 c =
     let t = c .before .before .before in
     let d = t .before .before .before .before .before .before .before in
-    let told = subst (λ (x : Decoded). (c .answer .result ≡ answerOf (x .number) (x .produced)) × (t .put-report .last .1 .1 .0 ≡ low-first 8 (x .consumed) ++ (x .subpart ∷ []))) (d .decode-packed-in .ensures .0) (c .answer .ensures, t .put-report .ensures) in
+    let told = subst (λ (x : Decoded). (c .answer .result ≡ answerOf (x .number) (x .produced)) × (t .put-report .last .1 .1 .0 ≡ low-first 8 (x .consumed) ++ (x .subpart ∷ []))) (d .decode-packed .ensures .0) (c .answer .ensures, t .put-report .ensures) in
     simp (toZ-ofZ w64 (c .answer .result) (sfits-of (c .answer .ok)))
-    (tells _ _ _ _ _ _ _ _ _ _ (λ e. t .before .before .before .if4 .left (sym (number d) ∙ e)) (d .decode-packed-in .ensures .1) told ∙ gives d)
+    (tells _ _ _ _ _ _ _ _ _ _ (λ e. t .before .before .before .if4 .left (sym (number d) ∙ e)) (d .decode-packed .ensures .1) told ∙ gives d)
 
 pub decode-entry-spec : {M : Type 1} → statement M
 decode-entry-spec =
@@ -77,7 +77,7 @@ decode-entry-spec =
     returns-3
     (λ c κs. search needs)
     (λ c. search needs)
-    (λ c. let d = c .before .before .before .before in let e = number d ∙ c .if4 .taken in refuses _ _ _ _ _ _ _ _ e (none d e) (d .decode-packed-in .ensures .1) ∙ gives d)
+    (λ c. let d = c .before .before .before .before in let e = number d ∙ c .if4 .taken in refuses _ _ _ _ _ _ _ _ e (none d e) (d .decode-packed .ensures .1) ∙ gives d)
     (λ c. omega (arith, short (c .before .before .before .before .before)))
     (λ c κs. search needs)
     (λ c κs. few (c .before .before .before .before .before .before .before .before .before))
