@@ -40,6 +40,8 @@ lines-cesu8 =
       escape-written = refl;
       surrogate-written = refl;
       surrogates-written = refl;
+      across-read = refl;
+      across-written = refl;
       pair-clean = cesu-demand3 .clean (0xED ∷ 0xA0 ∷ 0x80 ∷ 0xED ∷ 0xB0 ∷ 0x80 ∷ []) (omega arith, (omega arith, (omega arith, (omega arith, (omega arith, (omega arith, tt))))));
       escapes-unclean =
           λ h.

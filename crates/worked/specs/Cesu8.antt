@@ -6,13 +6,13 @@ use lib.ListN.{length}
 use Rattle.form.specs.Table.{plain, cesu}
 use Rattle.state.specs.Meaning.{held, recordOf}
 use Rattle.codings.specs.declared.Coding.the-variants.{Cesu8}
-use Rattle.decode.specs.Reading.{decoding-in}
+use Rattle.decode.specs.Reading.{decoding-in, decoding}
 use Rattle.encode.specs.Writing.{encoding-in}
 use Rattle.roundtrip.specs.Demand.{CleanList}
 use Rattle.advance.specs.Step.{continuation, incomplete, null, unit, Told, tell, tell-bad, refuse}
 use Rattle.restart.specs.Runs.{Bits, sixteen, reading, answers, state-after}
 use Rattle.restart.specs.Packets.{start}
-use Rattle.worked.specs.Lines.{LAST, LAST+STRICT, SHOW, LAST+SHOW}
+use Rattle.worked.specs.Lines.{LAST, LAST+STRICT, LAST+SHOW}
 
 -- with room for a code per byte the bytes s give the codes l, all are consumed, and the number is 0
 abbrev pub Gives : ℕ → List ℕ → List ℕ → Type 0
@@ -58,6 +58,11 @@ pub record Lines : Type 0 where
   pub escape-written : Writes 1 (0xDC80 ∷ []) (0x80 ∷ [])
   pub surrogate-written : Writes 3 (0xD800 ∷ []) (0xED ∷ 0xA0 ∷ 0x80 ∷ [])
   pub surrogates-written : Writes 6 (0xD800 ∷ 0xDC00 ∷ []) (0xED ∷ 0xA0 ∷ 0x80 ∷ 0xED ∷ 0xB0 ∷ 0x80 ∷ [])
+  -- six bad bytes of UTF-8 are escapes there, and those are written here as a sequence
+  pub across-read :
+      decoding LAST 6 (0xED ∷ 0xA0 ∷ 0x80 ∷ 0xED ∷ 0xB0 ∷ 0x80 ∷ [])
+      ≡ record { number = 0; consumed = 6; codes = 0xDCED ∷ 0xDCA0 ∷ 0xDC80 ∷ 0xDCED ∷ 0xDCB0 ∷ 0xDC80 ∷ []; subpart = 0 }
+  pub across-written : Writes 6 (0xDCED ∷ 0xDCA0 ∷ 0xDC80 ∷ 0xDCED ∷ 0xDCB0 ∷ 0xDC80 ∷ []) (0xED ∷ 0xA0 ∷ 0x80 ∷ 0xED ∷ 0xB0 ∷ 0x80 ∷ [])
   -- six neighbouring escapes that stand for one sequence are not clean
   pub pair-clean : CleanList Cesu8 (0x10000 ∷ [])
   pub escapes-unclean : CleanList Cesu8 (0xDCED ∷ 0xDCA0 ∷ 0xDC80 ∷ 0xDCED ∷ 0xDCB0 ∷ 0xDC80 ∷ []) → ⊥

@@ -25,7 +25,7 @@ LAST+STRICT = 5
 abbrev LAST+SURRO+STRICT : ℕ
 LAST+SURRO+STRICT = 7
 
-abbrev pub SHOW : ℕ
+abbrev SHOW : ℕ
 SHOW = 8
 
 abbrev pub LAST+SHOW : ℕ
