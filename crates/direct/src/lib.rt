@@ -2,8 +2,8 @@
 ghost use mathlib.Core.Path.{_≡_};
 ghost use mathlib.Core.List.{_++_};
 ghost use lib.ListN.{length, drop};
-ghost use Rattle.decode.specs.Reading.{decoding};
-ghost use Rattle.encode.specs.Writing.{encoding};
+ghost use Rattle.readings.specs.Reading.{decoding};
+ghost use Rattle.writings.specs.Writing.{encoding};
 
 // The codes produced.
 #[no_mangle]

@@ -6,8 +6,8 @@ use lib.IntN.{ℤ, pos, negℤ}
 use lib.ListN.{length, set}
 use borrow.Author.Tests.{eq-eqb, ne-eqb, le-leb}
 use Rattle.codings.specs.declared.Coding.{Coding}
-use Rattle.decode.specs.Reading.{decoding-in}
-use Rattle.encode.specs.Writing.{encoding-in}
+use Rattle.readings.specs.Reading.{decoding-in}
+use Rattle.writings.specs.Writing.{encoding-in}
 use Rattle.numbers.specs.Number.{low-first, over}
 use Rattle.packed.specs.Bytes.{laid, codesOf}
 use Rattle.entries.specs.Entry.{entry, answerOf, given, decode-entry-in, encode-entry-in}

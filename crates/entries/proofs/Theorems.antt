@@ -9,10 +9,10 @@ use lib.IntN.{ℤ, pos, negℤ}
 use lib.ListN.{length}
 use borrow.Author.Tests.{eqb-true}
 use Rattle.codings.specs.declared.Coding.{Coding}
-use Rattle.decode.specs.Reading.{decoding-in}
-use Rattle.decode.proofs.Theorems.{none-consumed, refuses-strict}
-use Rattle.encode.specs.Writing.{encoding-in}
-use Rattle.encode.proofs.Theorems as Writer
+use Rattle.readings.specs.Reading.{decoding-in}
+use Rattle.readings.proofs.Theorems.{none-consumed, refuses-strict}
+use Rattle.writings.specs.Writing.{encoding-in}
+use Rattle.writings.proofs.Theorems as Writer
 use Rattle.numbers.specs.Number.{low-first}
 use Rattle.packed.specs.Bytes.{laid, codesOf}
 use Rattle.entries.specs.Entry.{Entry, given, refused, is-report, in-limit, decode-entry-in, encode-entry-in}

@@ -7,8 +7,8 @@ use lib.IntN.{ℤ, pos, negℤ}
 use lib.ListN.{length}
 use Rattle.codings.specs.declared.Coding.{Coding}
 use Rattle.codings.specs.declared.Coding.the-variants.{Utf8}
-use Rattle.decode.specs.Reading.{decoding-in}
-use Rattle.encode.specs.Writing.{encoding-in}
+use Rattle.readings.specs.Reading.{decoding-in}
+use Rattle.writings.specs.Writing.{encoding-in}
 use Rattle.numbers.specs.Number.{low-first, over}
 use Rattle.packed.specs.Bytes.{laid, codesOf}
 

@@ -12,10 +12,11 @@ use borrow.Rule.Slice.PartAt.{part-to-end}
 use borrow.Rule.Slice.PartMut.{midOf, putMid}
 use Rattle.codings.specs.declared.Coding.{Coding}
 use Rattle.decode.specs.declared.Decoded.{Decoded}
-use Rattle.decode.specs.Reading as D
-use Rattle.decode.specs.Reading.{Reading, decoding-in, decodedOf}
-use Rattle.decode.proofs.Readings.{follow-follow, follow-none}
-use Rattle.decode.proofs.Theorems.{resume, within, full-up, more-room}
+use Rattle.readings.specs.Reading as D
+use Rattle.readings.specs.Reading.{Reading, decoding-in}
+use Rattle.decode.specs.Decoded.{decodedOf}
+use Rattle.readings.proofs.Readings.{follow-follow, follow-none}
+use Rattle.readings.proofs.Theorems.{resume, within, full-up, more-room}
 use Rattle.numbers.specs.Number.{over}
 use Rattle.packed.specs.Bytes.{laid}
 use Rattle.packed.proofs.Bytes.{laid-length, laid-append}

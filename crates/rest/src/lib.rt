@@ -2,7 +2,7 @@
 ghost use mathlib.Core.Path.{_≡_};
 ghost use mathlib.Core.List.{_++_};
 ghost use lib.ListN.{length, drop};
-ghost use Rattle.decode.specs.Reading.{decoding};
+ghost use Rattle.readings.specs.Reading.{decoding};
 ghost use Rattle.rest.specs.Rest.{RestOf};
 
 // The reader, which hands back the unread rest as a part of the caller's own bytes.

@@ -14,8 +14,8 @@ use Rattle.form.proofs.Utf8.{scalar-below}
 use Rattle.codings.specs.declared.Coding.{Coding}
 use Rattle.codings.specs.Codings.{writer-form, runs}
 use Rattle.codings.proofs.Laws.{sound}
-use Rattle.decode.proofs.Theorems.{reads-all}
-use Rattle.encode.proofs.Theorems.{encoding-write}
+use Rattle.readings.proofs.Theorems.{reads-all}
+use Rattle.writings.proofs.Theorems.{encoding-write}
 use Rattle.roundtrip.specs.Demand.{Reads, Writes, needs, CleanList, Demand3}
 
 module _ (K : Coding) where

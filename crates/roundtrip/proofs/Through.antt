@@ -8,9 +8,9 @@ use Rattle.form.specs.Table.{Form}
 use Rattle.form.specs.Text.{read, All, Bytes, Accepted}
 use Rattle.codings.specs.declared.Coding.{Coding}
 use Rattle.codings.specs.Codings.{writer-form}
-use Rattle.decode.proofs.Theorems.{within, reads-all}
-use Rattle.encode.specs.Writing.{encoding-in}
-use Rattle.encode.proofs.Theorems.{encoding-write}
+use Rattle.readings.proofs.Theorems.{within, reads-all}
+use Rattle.writings.specs.Writing.{encoding-in}
+use Rattle.writings.proofs.Theorems.{encoding-write}
 use Rattle.packed.specs.Bytes.{laid, codesOf}
 use Rattle.entries.specs.Entry.{given, decode-entry-in, encode-entry-in}
 use Rattle.packed.proofs.Bytes.{laid-length, laid-again}

@@ -8,8 +8,8 @@ use lib.ListN.{length}
 use Rattle.form.specs.Text.{bytes, Bytes, Clean, Accepted}
 use Rattle.codings.specs.declared.Coding.{Coding}
 use Rattle.codings.specs.Codings.{writer-form, runs}
-use Rattle.decode.specs.Reading.{decoding-in}
-use Rattle.encode.specs.Writing.{encoding-in}
+use Rattle.readings.specs.Reading.{decoding-in}
+use Rattle.writings.specs.Writing.{encoding-in}
 
 -- the reader with LAST alone, flag number 1, and room r answers 0, consumes every byte of s and gives the list l
 abbrev pub Reads : Coding → ℕ → List ℕ → List ℕ → Type 0

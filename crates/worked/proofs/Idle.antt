@@ -9,9 +9,9 @@ use Rattle.codings.specs.declared.Coding.the-variants.{Utf8}
 use Rattle.codings.specs.Codings.{reader-refuses-in, writer-refuses-in}
 use Rattle.form.specs.Table.{plain}
 use Rattle.form.specs.Text.{Bytes}
-use Rattle.decode.specs.Reading.{stopped, follow, decoding-in, decoding}
-use Rattle.encode.specs.Writing as Writing
-use Rattle.encode.specs.Writing.{refuses, bytes, after, encoding-in}
+use Rattle.readings.specs.Reading.{stopped, follow, decoding-in, decoding}
+use Rattle.writings.specs.Writing as Writing
+use Rattle.writings.specs.Writing.{refuses, bytes, after, encoding-in}
 use Rattle.roundtrip.specs.Demand.{Writes, needs}
 use Rattle.utf16.specs.Utf16.{utf16}
 use Rattle.state.specs.Meaning.{padded, recordOf, meaning, sense, senseOf}

@@ -6,8 +6,8 @@ use lib.ListN.{length}
 use Rattle.form.specs.Table.{plain, cesu}
 use Rattle.state.specs.Meaning.{held, recordOf}
 use Rattle.codings.specs.declared.Coding.the-variants.{Cesu8}
-use Rattle.decode.specs.Reading.{decoding-in, decoding}
-use Rattle.encode.specs.Writing.{encoding-in}
+use Rattle.readings.specs.Reading.{decoding-in, decoding}
+use Rattle.writings.specs.Writing.{encoding-in}
 use Rattle.roundtrip.specs.Demand.{CleanList}
 use Rattle.advance.specs.Step.{continuation, incomplete, null, unit, Told, tell, tell-bad, refuse}
 use Rattle.restart.specs.Runs.{Bits, sixteen, reading, answers, state-after}

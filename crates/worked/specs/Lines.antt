@@ -4,8 +4,8 @@ use mathlib.Core.List.{List, [], _∷_}
 use Prim.Native.Nat.{ℕ}
 use lib.ListN.{length}
 use Rattle.form.specs.Table.{plain}
-use Rattle.decode.specs.Reading.{decoding}
-use Rattle.encode.specs.Writing.{encoding}
+use Rattle.readings.specs.Reading.{decoding}
+use Rattle.writings.specs.Writing.{encoding}
 use Rattle.codings.specs.declared.Coding.the-variants.{Utf8}
 use Rattle.roundtrip.specs.Demand.{CleanList}
 use Rattle.advance.specs.Step.{continuation, incomplete, unit, Told, tell, tell-bad}

@@ -8,8 +8,8 @@ use Rattle.flags.specs.declared.Flags.{Flags}
 use Rattle.form.specs.Table.{Form}
 use Rattle.classify.specs.Lead.{rowsOf}
 use Rattle.codings.specs.Codings.{reader-form}
-use Rattle.decode.specs.Reading.{reading, decoding-in}
-use Rattle.decode.proofs.Readings.{accepted}
+use Rattle.readings.specs.Reading.{reading, decoding-in}
+use Rattle.readings.proofs.Readings.{accepted}
 use Rattle.decode.proofs.Places.{refused}
 use Rattle.decode.proofs.decode_in.Statement.{statement}
 use Rattle.decode.proofs.decode_in.Tie as tie

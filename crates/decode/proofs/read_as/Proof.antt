@@ -12,7 +12,7 @@ use Rattle.flags.specs.declared.Flags.{Flags}
 use Rattle.classify.specs.declared.Form.{Form}
 use Rattle.classify.specs.Lead.{rowsOf}
 use Rattle.form.specs.Pattern.{bits}
-use Rattle.decode.specs.Reading.{turn, convert}
+use Rattle.readings.specs.Reading.{turn, convert}
 use Rattle.decode.proofs.Places.{Reached, reached-start, reached-within, reached-next, ends-stop, ends-full, ends-used-up, Walking, walk-begun, NoneAt, walk-on, turn-whole, turn-waits, none-partial, none-bad, none-strict, none-lax}
 use Rattle.decode.proofs.read_as.Statement.{statement}
 use Rattle.decode.proofs.read_as.Tie as tie

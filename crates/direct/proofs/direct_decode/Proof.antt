@@ -2,7 +2,7 @@
 use mathlib.Core.Path.{ap}
 use borrow.Author.Needs.{needs}
 use Rattle.decode.specs.declared.Decoded.{Decoded}
-use Rattle.decode.specs.Reading.{decodedOf}
+use Rattle.decode.specs.Decoded.{decodedOf}
 use Rattle.direct.proofs.direct_decode.Statement.{statement}
 use Rattle.direct.proofs.direct_decode.Tie as tie
 

@@ -2,7 +2,7 @@
 use mathlib.Core.Path.{ap}
 use borrow.Author.Needs.{needs}
 use Rattle.encode.specs.declared.Encoded.{Encoded}
-use Rattle.encode.specs.Writing.{encodedOf}
+use Rattle.encode.specs.Encoded.{encodedOf}
 use Rattle.direct.proofs.direct_encode.Statement.{statement}
 use Rattle.direct.proofs.direct_encode.Tie as tie
 

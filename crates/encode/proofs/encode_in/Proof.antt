@@ -8,8 +8,8 @@ use Rattle.flags.specs.declared.Flags.{Flags}
 use Rattle.form.specs.Table.{Form}
 use Rattle.classify.specs.Lead.{rowsOf}
 use Rattle.codings.specs.Codings.{writer-form}
-use Rattle.encode.specs.Writing.{writing, encoding-in}
-use Rattle.encode.proofs.Turns.{accepted-is}
+use Rattle.writings.specs.Writing.{writing, encoding-in}
+use Rattle.writings.proofs.Turns.{accepted-is}
 use Rattle.encode.proofs.Places.{refusal}
 use Rattle.encode.proofs.encode_in.Statement.{statement}
 use Rattle.encode.proofs.encode_in.Tie as tie

@@ -10,9 +10,10 @@ use borrow.Author.Needs.{needs, sfits-of}
 use borrow.Author.Tests.{eq-eqb, ne-eqb, le-leb, lt-leb}
 use Rattle.codings.proofs.Laws.{longest-few}
 use Rattle.decode.specs.declared.Decoded.{Decoded}
-use Rattle.decode.specs.Reading.{Reading, stopped, decoding-in, decodedOf}
-use Rattle.decode.proofs.Readings.{refused-nothing}
-use Rattle.decode.proofs.Theorems.{refused-exactly, within, subpart-few}
+use Rattle.readings.specs.Reading.{Reading, stopped, decoding-in}
+use Rattle.decode.specs.Decoded.{decodedOf}
+use Rattle.readings.proofs.Readings.{refused-nothing}
+use Rattle.readings.proofs.Theorems.{refused-exactly, within, subpart-few}
 use Rattle.numbers.specs.Number.{low-first}
 use Rattle.packed.specs.Bytes.{laid}
 use Rattle.entries.specs.Entry.{answerOf, given, decode-entry-in}

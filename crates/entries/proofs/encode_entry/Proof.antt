@@ -9,8 +9,9 @@ use lib.ListN.{length}
 use borrow.Author.Needs.{needs, sfits-of}
 use borrow.Author.Tests.{eq-eqb, ne-eqb, le-leb, lt-leb}
 use Rattle.encode.specs.declared.Encoded.{Encoded}
-use Rattle.encode.specs.Writing.{Writing, encoding-in, encodedOf}
-use Rattle.encode.proofs.Theorems.{refused-nothing, within}
+use Rattle.writings.specs.Writing.{Writing, encoding-in}
+use Rattle.encode.specs.Encoded.{encodedOf}
+use Rattle.writings.proofs.Theorems.{refused-nothing, within}
 use Rattle.numbers.specs.Number.{low-first}
 use Rattle.packed.specs.Bytes.{codesOf}
 use Rattle.entries.specs.Entry.{answerOf, given, encode-entry-in}

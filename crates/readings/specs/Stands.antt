@@ -7,7 +7,7 @@ use lib.ListN.{length, take, drop}
 use Rattle.flags.specs.declared.Flags.{Flags}
 use Rattle.form.specs.Table.{Form, Codes}
 use Rattle.form.specs.Text.{escape}
-use Rattle.decode.specs.Stops.{BadAt}
+use Rattle.readings.specs.Stops.{BadAt}
 
 -- the code c stands for the first k bytes of s: for a well-formed sequence; or, where none starts and STRICT is absent, with SHOW as a mark for the maximal
 -- subpart, and otherwise as an escape for one byte

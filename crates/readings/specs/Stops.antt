@@ -8,7 +8,7 @@ use lib.ListN.{length}
 use Rattle.flags.specs.declared.Flags.{Flags}
 use Rattle.form.specs.Table.{Form, Partial}
 use Rattle.form.specs.Subpart.{StartsNone, Subpart}
-use Rattle.decode.specs.Reading.{Reading}
+use Rattle.readings.specs.Reading.{Reading}
 
 -- no well-formed sequence starts at the front of s, and the maximal subpart there has k bytes, fewer than the longest sequence, which has n; of a partial
 -- sequence, bad where LAST is given, it is the whole
