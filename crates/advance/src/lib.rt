@@ -1,12 +1,12 @@
 // What the reading steps share: held bytes, advanced over the input.
-use classify::Form;
+use forms::Form;
 use front::Front;
 use state::Record;
 use validity::Kind;
 ghost use mathlib.Core.Path.{_≡_};
 ghost use Prim.Native.Nat.{_+_, _≤_, min};
 ghost use lib.Seq.{paste};
-ghost use Rattle.classify.specs.Lead.{rowsOf};
+ghost use Rattle.forms.specs.Forms.{rowsOf};
 ghost use Rattle.advance.specs.Advance.{Advances, Holding, taken};
 
 // What a reading step answers.

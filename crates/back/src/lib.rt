@@ -1,5 +1,5 @@
 // 16-bit units back to bytes: what a unit gives, alone and after another.
-use classify::Form;
+use forms::Form;
 use state::Record;
 ghost use mathlib.Core.Path.{_≡_};
 ghost use mathlib.Core.List.{[], _∷_};

@@ -1,8 +1,8 @@
 // What a caller speaks, and all that tells one coding from another: the table that decides, and the flag numbers that are refused.
-use classify::Form;
 use flags::Flags;
+use forms::Form;
 ghost use mathlib.Core.Path.{_≡_};
-ghost use Rattle.classify.specs.Lead.{rowsOf};
+ghost use Rattle.forms.specs.Forms.{rowsOf};
 ghost use Rattle.flags.specs.Number.{flagsOf};
 ghost use Rattle.codings.specs.Codings.{reader-form, writer-form, refuses-surro, reader-refuses-in, writer-refuses-in};
 

@@ -2,13 +2,13 @@
 use advance::Answer;
 use advance::Reading;
 use back::Written;
-use classify::Form;
+use forms::Form;
 use state::Record;
 use validity::Kind;
 ghost use mathlib.Core.Path.{_≡_};
 ghost use lib.ListN.{length};
 ghost use Rattle.form.specs.Table.{plain};
-ghost use Rattle.classify.specs.Lead.{rowsOf};
+ghost use Rattle.forms.specs.Forms.{rowsOf};
 ghost use Rattle.units.specs.Width.{width8, width16, width32};
 ghost use Rattle.back.specs.Back.{backOf, step-back};
 ghost use Rattle.advance.specs.Step.{step};

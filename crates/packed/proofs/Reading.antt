@@ -11,10 +11,10 @@ use borrow.Author.Tests.{eq-eqb, ne-eqb}
 use borrow.Rule.Slice.PartAt.{part-to-end}
 use borrow.Rule.Slice.PartMut.{midOf, putMid}
 use Rattle.codings.specs.declared.Coding.{Coding}
-use Rattle.decode.specs.declared.Decoded.{Decoded}
+use Rattle.reader.specs.declared.Decoded.{Decoded}
 use Rattle.readings.specs.Reading as D
 use Rattle.readings.specs.Reading.{Reading, decoding-in}
-use Rattle.decode.specs.Decoded.{decodedOf}
+use Rattle.reader.specs.Decoded.{decodedOf}
 use Rattle.readings.proofs.Readings.{follow-follow, follow-none}
 use Rattle.readings.proofs.Theorems.{resume, within, full-up, more-room}
 use Rattle.numbers.specs.Number.{over}

@@ -7,9 +7,9 @@ ghost use mathlib.Core.List.{_++_};
 ghost use Prim.Native.Nat.{_+_, _*_, _/_, _≤_, min};
 ghost use lib.ListN.{length, take, drop};
 ghost use Rattle.readings.specs.Reading.{decoding-in};
-ghost use Rattle.decode.specs.Decoded.{decodedOf};
+ghost use Rattle.reader.specs.Decoded.{decodedOf};
 ghost use Rattle.writings.specs.Writing.{encoding-in};
-ghost use Rattle.encode.specs.Encoded.{encodedOf};
+ghost use Rattle.writer.specs.Encoded.{encodedOf};
 ghost use Rattle.numbers.specs.Number.{low-first, over};
 ghost use Rattle.packed.specs.Bytes.{laid, codesOf};
 

@@ -10,8 +10,8 @@ use Rattle.form.specs.Scan.{Found, scan}
 use Rattle.form.proofs.Subparts.{bad-short}
 use Rattle.front.specs.declared.Front.{Front}
 use Rattle.front.specs.declared.Front.the-variants as Variants
-use Rattle.classify.specs.Lead.{rowsOf}
-use Rattle.classify.proofs.Forms.{form-scans}
+use Rattle.forms.specs.Forms.{rowsOf}
+use Rattle.forms.proofs.Forms.{form-scans}
 use Rattle.front.proofs.Told.{Finds, told-finds}
 use Rattle.state.specs.declared.Record.{Record}
 use Rattle.advance.specs.declared.Window.{Window}

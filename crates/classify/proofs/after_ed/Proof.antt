@@ -3,8 +3,8 @@ use mathlib.Core.Path.{sym, ap}
 use borrow.Author.Needs.{needs}
 use Rattle.form.specs.Table.{plain, surro, cesu}
 use Rattle.form.specs.Scan.{after}
-use Rattle.classify.specs.declared.Form.{Form}
-use Rattle.classify.specs.Lead.{rowsOf}
+use Rattle.forms.specs.declared.Form.{Form}
+use Rattle.forms.specs.Forms.{rowsOf}
 use Rattle.classify.specs.Stage.{stages, stageOf}
 use Rattle.classify.proofs.after_ed.Statement.{statement}
 use Rattle.classify.proofs.after_ed.Tie as tie

@@ -1,23 +1,24 @@
 -- Refused flags, or the reader for the form that is asked for. Assumes nothing.
-use mathlib.Core.Path.{_≡_, sym, ap, _∙_}
+use mathlib.Core.Path.{_≡_, refl, sym, ap, _∙_}
 use mathlib.Core.List.{List}
 use Prim.Native.Nat.{ℕ}
 use lib.ListN.{length}
 use borrow.Author.Needs.{needs}
 use Rattle.flags.specs.declared.Flags.{Flags}
 use Rattle.form.specs.Table.{Form}
-use Rattle.classify.specs.Lead.{rowsOf}
+use Rattle.forms.specs.Forms.{rowsOf}
 use Rattle.codings.specs.Codings.{reader-form}
-use Rattle.readings.specs.Reading.{reading, decoding-in}
-use Rattle.readings.proofs.Readings.{accepted}
-use Rattle.decode.proofs.Places.{refused}
+use Rattle.readings.specs.Reading.{stopped, reading, decoding-in}
+use Rattle.readings.proofs.Readings.{accepted, refused-nothing}
+use Rattle.reader.specs.Decoded.{decodedOf}
 use Rattle.decode.proofs.decode_in.Statement.{statement}
 use Rattle.decode.proofs.decode_in.Tie as tie
 
 returns : tie.Need-returns
+unfolding decodedOf stopped
 returns c =
     let a = c .before .before .before .before .args in
-    refused (a .coding) (a .flags) (a .s .now) (a .codes .now) (sym (c .before .reader-refuses-in .ensures) ∙ c .if1 .taken)
+    rw (refused-nothing (a .coding) (a .flags) (length (a .codes .now)) (a .s .now) (sym (c .before .reader-refuses-in .ensures) ∙ c .if1 .taken)) (refl, refl)
 
 abbrev start : tie.After-reader-form → tie.Start
 start f = f .before .before .before .before .before .before

@@ -1,8 +1,8 @@
 -- The count is a part of the answer of the call below. Assumes nothing.
 use mathlib.Core.Path.{ap}
 use borrow.Author.Needs.{needs}
-use Rattle.decode.specs.declared.Decoded.{Decoded}
-use Rattle.decode.specs.Decoded.{decodedOf}
+use Rattle.reader.specs.declared.Decoded.{Decoded}
+use Rattle.reader.specs.Decoded.{decodedOf}
 use Rattle.direct.proofs.direct_decode.Statement.{statement}
 use Rattle.direct.proofs.direct_decode.Tie as tie
 

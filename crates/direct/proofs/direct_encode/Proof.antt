@@ -1,8 +1,8 @@
 -- The count is a part of the answer of the call below. Assumes nothing.
 use mathlib.Core.Path.{ap}
 use borrow.Author.Needs.{needs}
-use Rattle.encode.specs.declared.Encoded.{Encoded}
-use Rattle.encode.specs.Encoded.{encodedOf}
+use Rattle.writer.specs.declared.Encoded.{Encoded}
+use Rattle.writer.specs.Encoded.{encodedOf}
 use Rattle.direct.proofs.direct_encode.Statement.{statement}
 use Rattle.direct.proofs.direct_encode.Tie as tie
 

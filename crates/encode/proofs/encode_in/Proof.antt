@@ -1,23 +1,24 @@
 -- Refused flags, or the writer for the form of the coding. Assumes nothing.
-use mathlib.Core.Path.{_≡_, sym, ap, _∙_}
+use mathlib.Core.Path.{_≡_, refl, sym, ap, _∙_}
 use mathlib.Core.List.{List}
 use Prim.Native.Nat.{ℕ}
 use lib.ListN.{length}
 use borrow.Author.Needs.{needs}
 use Rattle.flags.specs.declared.Flags.{Flags}
 use Rattle.form.specs.Table.{Form}
-use Rattle.classify.specs.Lead.{rowsOf}
+use Rattle.forms.specs.Forms.{rowsOf}
 use Rattle.codings.specs.Codings.{writer-form}
-use Rattle.writings.specs.Writing.{writing, encoding-in}
-use Rattle.writings.proofs.Turns.{accepted-is}
-use Rattle.encode.proofs.Places.{refusal}
+use Rattle.writings.specs.Writing.{stopped, writing, encoding-in}
+use Rattle.writings.proofs.Turns.{refused-is, accepted-is}
+use Rattle.writer.specs.Encoded.{encodedOf}
 use Rattle.encode.proofs.encode_in.Statement.{statement}
 use Rattle.encode.proofs.encode_in.Tie as tie
 
 returns : tie.Need-returns
+unfolding encodedOf stopped
 returns c =
     let a = c .before .before .before .before .args in
-    refusal (a .coding) (a .flags) (a .codes .now) (a .dst .now) (sym (c .before .writer-refuses-in .ensures) ∙ c .if1 .taken)
+    rw (refused-is (a .coding) (a .flags) (length (a .dst .now)) (a .codes .now) (sym (c .before .writer-refuses-in .ensures) ∙ c .if1 .taken)) (refl, refl)
 
 abbrev start : tie.After-writer-form → tie.Start
 start f = f .before .before .before .before .before .before

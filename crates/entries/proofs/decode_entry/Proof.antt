@@ -9,9 +9,9 @@ use lib.ListN.{length}
 use borrow.Author.Needs.{needs, sfits-of}
 use borrow.Author.Tests.{eq-eqb, ne-eqb, le-leb, lt-leb}
 use Rattle.codings.proofs.Laws.{longest-few}
-use Rattle.decode.specs.declared.Decoded.{Decoded}
+use Rattle.reader.specs.declared.Decoded.{Decoded}
 use Rattle.readings.specs.Reading.{Reading, stopped, decoding-in}
-use Rattle.decode.specs.Decoded.{decodedOf}
+use Rattle.reader.specs.Decoded.{decodedOf}
 use Rattle.readings.proofs.Readings.{refused-nothing}
 use Rattle.readings.proofs.Theorems.{refused-exactly, within, subpart-few}
 use Rattle.numbers.specs.Number.{low-first}

@@ -8,9 +8,9 @@ use mir.ValLaws.{toZ-ofZ}
 use lib.ListN.{length}
 use borrow.Author.Needs.{needs, sfits-of}
 use borrow.Author.Tests.{eq-eqb, ne-eqb, le-leb, lt-leb}
-use Rattle.encode.specs.declared.Encoded.{Encoded}
+use Rattle.writer.specs.declared.Encoded.{Encoded}
 use Rattle.writings.specs.Writing.{Writing, encoding-in}
-use Rattle.encode.specs.Encoded.{encodedOf}
+use Rattle.writer.specs.Encoded.{encodedOf}
 use Rattle.writings.proofs.Theorems.{refused-nothing, within}
 use Rattle.numbers.specs.Number.{low-first}
 use Rattle.packed.specs.Bytes.{codesOf}

@@ -6,8 +6,8 @@ use lib.ListN.{length, drop}
 use borrow.Author.Needs.{needs}
 use borrow.Rule.Slice.PartAt.{part-to-end}
 use Rattle.codings.specs.declared.Coding.the-variants.{Utf8}
-use Rattle.decode.specs.declared.Decoded.{Decoded}
-use Rattle.decode.specs.Decoded.{decodedOf}
+use Rattle.reader.specs.declared.Decoded.{Decoded}
+use Rattle.reader.specs.Decoded.{decodedOf}
 use Rattle.readings.proofs.Theorems.{within}
 use Rattle.rest.proofs.decode_rest.Statement.{statement}
 use Rattle.rest.proofs.decode_rest.Tie as tie
