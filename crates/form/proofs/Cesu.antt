@@ -12,7 +12,7 @@ use Rattle.form.specs.Text.{All, unescape, sequence, Demand3, cesu-runs}
 use Rattle.form.proofs.Tests.{Sound}
 use Rattle.form.proofs.Codes.{patterned, codes-append}
 use Rattle.form.proofs.Sequences.{no-sequence}
-use Rattle.form.proofs.Pattern.{each-row, Shape, shape-bits, shape-pattern}
+use Rattle.form.proofs.Pattern.{each-row, Shape, tail-bits, shape-bits, shape-pattern}
 use Rattle.form.proofs.Runs.{run-length}
 use Rattle.form.proofs.Demand.{demand3}
 use Rattle.form.proofs.EncodingForms.{EncodingForm, encoding-form}
@@ -41,9 +41,6 @@ pub cesu-run : (m : List ℕ) → All Escape m → WellFormed cesu (map unescape
 cesu-run = run-length cesu-runs cesu (cesu-sound .is-long)
 
 -- ---- six bytes: two surrogates of three bytes, with ten bits each
-
-tail-bits : (y : ℕ) → In tail y → y % 0x40 ≡ y - 0x80
-tail-bits y h = omega arith
 
 -- the three bytes of a surrogate
 half : (b x c : ℕ) → In tail b → In tail x → c ≡ 0xD000 + (b - 0x80) * 0x40 + (x - 0x80) → pattern c ≡ 0xED ∷ b ∷ x ∷ []
