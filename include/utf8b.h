@@ -1,15 +1,18 @@
 /*
- * libutf8b: UTF-8 and CESU-8 to codes and back, with every byte kept.
+ * libutf8b: UTF-8 and CESU-8 to codes and back, with every byte kept, and an index
+ * into a long log.
  *
  * A code is four bytes, low byte first, on every machine.  A byte b at which no
  * well-formed sequence starts is read as the escape U+DC00 + b (U+DC80..U+DCFF),
  * and the escape is written back as that byte.
  *
  * What each call answers and leaves in its buffers is proved for every input
- * (crates/utf8b, crates/utf8b_cesu8).  What is trusted at this boundary:
+ * (crates/utf8b, crates/utf8b_cesu8, crates/utf8b_index).  What is trusted at this
+ * boundary:
  *   - each pointer is good for its length, the input for reading, the others for
  *     reading and writing, and nothing else changes them during the call;
- *   - the buffers of one call do not overlap;
+ *   - the buffers of one call, and the numbers that it fills in, do not overlap, and
+ *     no pointer to one number is null;
  *   - this header and the compiler agree with the archive on the calling convention.
  * A null pointer with length 0 is an empty buffer.  That is tested, and not proved.
  *
@@ -39,8 +42,16 @@ extern "C" {
 #define UTF8B_REFUSED_CODES (-7)   /* writing: codes_len is no multiple of 4 */
 #define UTF8B_REFUSED_LENGTH (-8)  /* an input or output of more than UTF8B_LIMIT bytes */
 
+/* Numbers that the calls on an index answer.  After all but the first, nothing has been changed. */
+#define UTF8B_DONE 0u      /* the results are filled in */
+#define UTF8B_NO_ROOM 1u   /* the index would be longer than index_len */
+#define UTF8B_OUTSIDE 15u  /* a code, byte or record that is not there, or a place at or past the end */
+
 #define UTF8B_REPORT 9      /* bytes in a report: a count in 8, low byte first, and a length in 1 */
-#define UTF8B_LIMIT 1048576 /* most bytes in an input or output */
+#define UTF8B_LIMIT 1048576 /* most bytes in an input or output; the calls on an index have no limit */
+
+#define UTF8B_INDEX_EVERY 64 /* codes from one record of an index to the next */
+#define UTF8B_INDEX_RECORD 8 /* bytes in a record: the place of a code, low byte first */
 
 /*
  * Reads the bytes of src as codes.  The room is codes_len / 4 codes; bytes of
@@ -108,17 +119,77 @@ int64_t utf8b_cesu8_encode(const uint8_t *codes, size_t codes_len,
                            uint32_t flags,
                            uint8_t *report, size_t report_len);
 
-/* What every caller needs of a report and of codes.  These are C, tested and not proved. */
+/*
+ * An index into a log: a record for every 64th code, 0, 64, 128, .., with the place of
+ * the byte where it starts.  The codes are those that utf8b_decode reads with UTF8B_LAST
+ * alone, so each bad byte is a code of its own.
+ *
+ * Builds the index of a log.  *records gets the number of records; bytes of index beyond
+ * them stay as they are.  utf8b_index_room(log_len) bytes are always enough.
+ * Answers UTF8B_DONE, or UTF8B_NO_ROOM.
+ */
+uint32_t utf8b_index_build(const uint8_t *log, size_t log_len,
+                           uint8_t *index, size_t index_len,
+                           size_t *records);
+
+/*
+ * Finds code k, from 0: *place gets the byte where it starts.  It reads one record, and
+ * the bytes of at most 63 items from there on.  index_len is the length of the records
+ * alone, 8 bytes for each.
+ *
+ * Answers UTF8B_DONE; or UTF8B_OUTSIDE where the log has no code k, the index has no
+ * record for it, or a place recorded or reached is not inside the log.  An index that is
+ * not the log's own is not found out: the answer is then what the walk from its record
+ * gives.
+ */
+uint32_t utf8b_index_find(const uint8_t *log, size_t log_len,
+                          const uint8_t *index, size_t index_len,
+                          size_t k,
+                          size_t *place);
+
+/*
+ * Which item covers byte p: *start gets its first byte, *length how many bytes it has,
+ * and *code its code, the escape U+DC00 + b for a bad byte b.  It reads only the bytes
+ * from p - 3 to p + 3, and needs no index.
+ * Answers UTF8B_DONE, or UTF8B_OUTSIDE where p is not inside the log.
+ */
+uint32_t utf8b_index_cover(const uint8_t *log, size_t log_len,
+                           size_t p,
+                           size_t *start, size_t *length, uint32_t *code);
+
+/*
+ * Brings an index up to date after bytes were appended to the log, without reading the
+ * log again from the start.  old_len is the length of the log when the index was built
+ * or updated last, and old_records the number of its records.  *records gets the new
+ * number, which may be one less, since F0 9F 92 is three codes and F0 9F 92 A7 is one.
+ * Bytes of index beyond the records stay as they are: hand on only 8 * *records of them.
+ *
+ * If the records were those of the log's first old_len bytes, they are then those that
+ * utf8b_index_build would give.  Answers UTF8B_DONE; UTF8B_OUTSIDE where old_len is more
+ * than log_len, or old_records more than index has room for; or else UTF8B_NO_ROOM.
+ */
+uint32_t utf8b_index_update(const uint8_t *log, size_t log_len,
+                            size_t old_len, size_t old_records,
+                            uint8_t *index, size_t index_len,
+                            size_t *records);
+
+/* What every caller needs of reports, codes and records.  These are C, tested and not proved. */
+
+/* The number in 8 bytes, low byte first. */
+static inline uint64_t utf8b_number(const uint8_t *bytes)
+{
+    uint64_t number = 0;
+    int i;
+
+    for (i = 8; i-- > 0;)
+        number = number << 8 | bytes[i];
+    return number;
+}
 
 /* The bytes or codes consumed. */
 static inline size_t utf8b_consumed(const uint8_t *report)
 {
-    uint64_t count = 0;
-    int i;
-
-    for (i = 8; i-- > 0;)
-        count = count << 8 | report[i];
-    return (size_t)count;
+    return (size_t)utf8b_number(report);
 }
 
 /* The length of the bad stretch that reading stopped before, or 0. */
@@ -133,6 +204,18 @@ static inline uint32_t utf8b_code(const uint8_t *codes, size_t i)
     const uint8_t *code = codes + 4 * i;
 
     return code[0] | (uint32_t)code[1] << 8 | (uint32_t)code[2] << 16 | (uint32_t)code[3] << 24;
+}
+
+/* Record i of an index, from 0: the place of code 64 * i. */
+static inline size_t utf8b_index_place(const uint8_t *index, size_t i)
+{
+    return (size_t)utf8b_number(index + UTF8B_INDEX_RECORD * i);
+}
+
+/* Bytes that are enough for the index of any log of so many bytes. */
+static inline size_t utf8b_index_room(size_t log_len)
+{
+    return (log_len / UTF8B_INDEX_EVERY + (log_len % UTF8B_INDEX_EVERY != 0)) * UTF8B_INDEX_RECORD;
 }
 
 #ifdef __cplusplus

@@ -1,3 +1,4 @@
 pub mod Laws
 pub mod Putting
 pub mod Getting
+pub mod Filled

@@ -19,8 +19,8 @@ use Rattle.readings.proofs.Readings.{follow-follow, follow-none}
 use Rattle.readings.proofs.Theorems.{resume, within, full-up, more-room}
 use Rattle.numbers.specs.Number.{over}
 use Rattle.packed.specs.Bytes.{laid}
-use Rattle.packed.proofs.Bytes.{laid-length, laid-append}
-use Rattle.packed.proofs.Filled.{Filled, filled-none, filled-same, filled-part, filled-more}
+use Rattle.numbers.proofs.Laws.{laid-length, laid-append}
+use Rattle.numbers.proofs.Filled.{Filled, filled-none, filled-same, filled-part, filled-more}
 
 -- n codes are given, and `at` bytes consumed
 pub record Reads (K : Coding) (f : ℕ) (s d₀ d : List ℕ) (at n : ℕ) : Type 0 where
@@ -52,7 +52,7 @@ pub record Stretched (K : Coding) (f : ℕ) (s d₀ d : List ℕ) (at n : ℕ) (
 
 module _ (K : Coding) (f : ℕ) (s d₀ d : List ℕ) (at n : ℕ) (r : Reads K f s d₀ d at n) where
   from : length (laid (r .codes)) ≡ n * 4
-  from = laid-length (r .codes) ∙ ap (λ (k : ℕ). k * 4) (r .count)
+  from = laid-length 4 (r .codes) ∙ ap (λ (k : ℕ). k * 4) (r .count)
 
   same : length d ≡ length d₀
   same = filled-same d₀ d (laid (r .codes)) (r .filled)
@@ -134,7 +134,7 @@ module _ (K : Coding) (f : ℕ) (s d₀ d : List ℕ) (at n : ℕ) (r : Reads K 
       → Stretched K f s d₀ (putMid (n * 4) (length d - n * 4) d p) at n q
   stretched q p (e, o) =
       let d′ = putMid (n * 4) (length d - n * 4) d p in
-      let fits : length (laid (R .codes)) ≤ length d₀ - n * 4 = omega (arith, laid-length (R .codes), within K f a (drop at s) .1, from, r .filled .fits) in
+      let fits : length (laid (R .codes)) ≤ length d₀ - n * 4 = omega (arith, laid-length 4 (R .codes), within K f a (drop at s) .1, from, r .filled .fits) in
       let is : p ≡ over (laid (R .codes)) (midOf (n * 4) (length d - n * 4) d) = o ∙ ap (λ (X : Reading). over (laid (X .codes)) (midOf (n * 4) (length d - n * 4) d)) lent in
       let f′ = filled-more d₀ d (laid (r .codes)) (r .filled) (n * 4) from (laid (R .codes)) p fits is in
-      subst (Stretched K f s d₀ d′ at n) (sym (e ∙ ap decodedOf lent)) (read d′ (rw (laid-append (r .codes) (R .codes)) f′))
+      subst (Stretched K f s d₀ d′ at n) (sym (e ∙ ap decodedOf lent)) (read d′ (rw (laid-append 4 (r .codes) (R .codes)) f′))

@@ -13,7 +13,8 @@ use Rattle.writings.specs.Writing.{encoding-in}
 use Rattle.writings.proofs.Theorems.{encoding-write}
 use Rattle.packed.specs.Bytes.{laid, codesOf}
 use Rattle.entries.specs.Entry.{given, decode-entry-in, encode-entry-in}
-use Rattle.packed.proofs.Bytes.{laid-length, laid-again}
+use Rattle.numbers.proofs.Laws.{laid-length}
+use Rattle.packed.proofs.Bytes.{laid-again}
 use Rattle.entries.proofs.Answers.{decode-given, encode-given}
 use Rattle.roundtrip.specs.Entries.{Buffer, Gives, Through}
 use Rattle.roundtrip.proofs.Holds.{lists, read-accepted}
@@ -42,10 +43,10 @@ module _ (K : Coding) where
       let l = read F s in
       let a = read-accepted K s b in
       let x = lists K .exact s b in
-      let n = laid-length l in
+      let n = laid-length 4 l in
       let w : encoding-in K 0 (length e) (codesOf (laid l)) ≡ record { number = 0; consumed = length l; written = s } =
       rw (laid-again l (narrow l a)) (encoding-write K l (length e) a (omega (arith, ap length x, h .0)) ∙ rw x refl) in
       rw (← encode-given K (laid l) e q 0 k (omega (arith, few s)) (h .1) (omega arith)) (rw w (refl, refl, refl))
 
   pub through : Through K
-  through = record { back = λ s d e r q b h k x y. (length (read F s), laid (read F s), laid-length (read F s), read-in s d r h x, written-out s e q b (omega (arith, h .0, h .1)) k y) }
+  through = record { back = λ s d e r q b h k x y. (length (read F s), laid (read F s), laid-length 4 (read F s), read-in s d r h x, written-out s e q b (omega (arith, h .0, h .1)) k y) }

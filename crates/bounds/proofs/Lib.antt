@@ -1,0 +1,4 @@
+pub mod Bounds
+pub mod Apart
+pub mod Covers
+pub mod Window

@@ -1,0 +1,36 @@
+-- What stands at the front of a slice, as an item. Assumes nothing.
+use mathlib.Core.Path.{_≡_, refl, sym, ap, _∙_}
+use mathlib.Core.List.{List, [], _∷_}
+use Prim.Native.Nat.{ℕ, suc, _<_, max}
+use native.Mathlib.Omega.{arith}
+use lib.ListN.{length, getD}
+use Rattle.form.specs.Table.{plain}
+use Rattle.form.specs.Scan.{Found, well, part, bad, scan}
+use Rattle.form.specs.Text.{Item, coded, stray, item}
+use Rattle.front.specs.Front.{Told, told, toldOf}
+use Rattle.front.specs.declared.Front.{Front}
+use Rattle.front.specs.declared.Front.the-variants.{Well, Partial, Bad}
+use Rattle.item.specs.Leaf.{leaf, leafOf, itemOf}
+
+-- one number is not another
+other : {A : Type 0} (f : Front) (x : Found) (n : ℕ) → told f ≡ toldOf x n → (told f .number ≡ toldOf x n .number → ⊥) → A
+other f x n e h = absurd (h (ap (λ (k : Told). k .number) e))
+
+by-found : (f : Front) (b : ℕ) (t : List ℕ) (x : Found) → told f ≡ toldOf x (suc (length t)) → itemOf f b ≡ item x b t
+by-found (Well c n) b t (well d m) e =
+    let p : c ≡ d = ap (λ (k : Told). k .code) e in
+    let q : n ≡ m = ap (λ (k : Told). k .len) e in
+    rw (p, q) refl
+by-found (Partial n) b t part e = ap (λ (m : ℕ). stray b m) (ap (λ (k : Told). k .len) e)
+by-found (Bad n) b t (bad m) e = ap (λ (i : ℕ). stray b i) (ap (λ (k : Told). k .len) e)
+by-found (Well c n) b t part e = other (Well c n) part (suc (length t)) e (λ z. omega arith)
+by-found (Well c n) b t (bad m) e = other (Well c n) (bad m) (suc (length t)) e (λ z. omega arith)
+by-found (Partial n) b t (well d m) e = other (Partial n) (well d m) (suc (length t)) e (λ z. omega arith)
+by-found (Partial n) b t (bad m) e = other (Partial n) (bad m) (suc (length t)) e (λ z. omega arith)
+by-found (Bad n) b t (well d m) e = other (Bad n) (well d m) (suc (length t)) e (λ z. omega arith)
+by-found (Bad n) b t part e = other (Bad n) part (suc (length t)) e (λ z. omega arith)
+
+pub by-front : (f : Front) (s : List ℕ) → 0 < length s → told f ≡ toldOf (scan plain s) (length s) → leaf (itemOf f (getD s 0 0)) ≡ leafOf s
+unfolding leafOf
+by-front f [] h e = absurd (omega arith)
+by-front f (b ∷ t) h e = ap leaf (by-found f b t (scan plain (b ∷ t)) e)

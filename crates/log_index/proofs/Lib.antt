@@ -1,0 +1,6 @@
+pub mod Lists
+pub mod Starts
+pub mod Finding
+pub mod Standing
+pub mod Fresh
+pub mod Bytes

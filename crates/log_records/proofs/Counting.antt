@@ -1,0 +1,29 @@
+-- Counting the records. Assumes nothing.
+use mathlib.Core.Path.{_≡_, refl, sym, ap, _∙_}
+use mathlib.Core.List.{List, [], _∷_, _++_}
+use Prim.Native.Nat.{ℕ, _+_, _-_, _≤_, _<_}
+use native.Mathlib.Omega.{arith}
+use lib.ListN.{length, length-append}
+use Rattle.item.specs.declared.Leaf.{Leaf}
+use Rattle.item.proofs.Here.{Here}
+use Rattle.log_index.specs.Index.{starts, every}
+use Rattle.log_records.proofs.Walk.{Reached, reached-start, reached-pass, reached-record, reached-end}
+
+pub record Counts (s : List ℕ) (from k at left n : ℕ) : Type 0 where
+  pub done : List ℕ
+  pub so-far : length done ≡ n
+  pub reached : Reached s from k done at left
+
+pub counts-start : (s : List ℕ) (from k : ℕ) → Counts s from k from k 0
+counts-start s from k = record { done = []; so-far = refl; reached = reached-start s from k }
+
+module _ (s : List ℕ) (from k at left n : ℕ) (K : Counts s from k at left n) where
+  pub counts-pass : (r : Leaf) → Here s at r → 0 < left → Counts s from k (at + r .span) (left - 1) n
+  counts-pass r h g = record { done = K .done; so-far = K .so-far; reached = reached-pass s from k (K .done) at left r (K .reached) h g }
+
+  pub counts-record : (r : Leaf) → Here s at r → left ≤ 0 → Counts s from k (at + r .span) 63 (n + 1)
+  counts-record r h g =
+      record { done = K .done ++ (at ∷ []); so-far = length-append (K .done) (at ∷ []) ∙ omega (arith, K .so-far); reached = reached-record s from k (K .done) at left r (K .reached) h g }
+
+  pub counts-end : length s ≤ at → n ≡ length (every k (starts s from))
+  counts-end h = sym (ap length (reached-end s from k (K .done) at left (K .reached) h) ∙ K .so-far)

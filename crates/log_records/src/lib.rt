@@ -1,0 +1,61 @@
+// The records of a log from a place on: how many, and their bytes.
+ghost use mathlib.Core.Path.{_≡_};
+ghost use Prim.Native.Nat.{_/_};
+ghost use lib.ListN.{length, take};
+ghost use Rattle.numbers.specs.Number.{laid-in, over};
+ghost use Rattle.log_index.specs.Index.{starts, every};
+
+// Between two codes that have a record stand so many that have none.
+const BETWEEN: usize = 63;
+
+// The bytes of a record.
+const RECORD: usize = 8;
+
+// How many records the codes from a place on have, the first of them after k codes.
+pub fn count_records(log: &[u8], from: usize, k: usize) -> usize
+    ensures { λ r. ⌜ r ≡ length (every k (starts (now (log .entry)) from)) ⌝ }
+{
+    let mut at = from;
+    let mut left = k;
+    let mut n: usize = 0;
+    while at < log.len() {
+        let i = item::item_of(&log[at..]);
+        let end = at + i.span;
+        if 0 < left {
+            left -= 1;
+            at = end;
+            continue;
+        }
+        n += 1;
+        left = BETWEEN;
+        at = end;
+    }
+    n
+}
+
+// Those records at the front of a buffer, as many as it has room for.
+pub fn lay_records(log: &[u8], from: usize, k: usize, out: &mut [u8])
+    ensures { λ _. ⌜ now (out .exit) ≡ over (laid-in 8 (take (length (now (out .entry)) / 8) (every k (starts (now (log .entry)) from)))) (now (out .entry)) ⌝ }
+{
+    let mut at = from;
+    let mut left = k;
+    let mut n: usize = 0;
+    while at < log.len() {
+        let i = item::item_of(&log[at..]);
+        let end = at + i.span;
+        if 0 < left {
+            left -= 1;
+            at = end;
+            continue;
+        }
+        if out.len() / RECORD <= n {
+            return;
+        }
+        let first = n * RECORD;
+        let last = first + RECORD;
+        numbers::put(at, &mut out[first..last]);
+        n += 1;
+        left = BETWEEN;
+        at = end;
+    }
+}

@@ -1,0 +1,2 @@
+pub mod Resumption
+pub mod Answer
