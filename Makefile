@@ -2,7 +2,7 @@ PREFIX ?= /usr/local
 c_flags := -std=c99 -O2 -Wall -Wextra -pedantic
 
 # rt staticlib exports only what the crate it is given marks, so each crate with entries for C is named here.
-entries := utf8b utf8b_cesu8
+entries := utf8b utf8b_cesu8 utf8b_index
 archive := build/libutf8b.a
 # The directories are named too: a file that is taken away changes nothing else.
 sources := Makefile crates.txt $(shell find crates/*/src crates/*/specs crates/*/proofs)

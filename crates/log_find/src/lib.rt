@@ -6,6 +6,7 @@ ghost use Rattle.log_find.specs.Answer.{placeOf};
 
 // A record is for every so many codes, and has so many bytes.
 const EVERY: usize = 64;
+
 const RECORD: usize = 8;
 
 // Number 0 and the place; or 15 and 0.

@@ -22,11 +22,10 @@ stand n [] = (0, record { are = refl; few = omega arith; before = tt; reaches = 
 stand n (p ∷ rs) = go (ltb (p + 3) n) refl (stand n rs)
   where
     go : (b : Bool) → ltb (p + 3) n ≡ b → (j : ℕ) × Stand n rs j → (j : ℕ) × Stand n (p ∷ rs) j
-    go true e (j, S) =
-        (
-          suc j,
-          record { are = rw e (ap (λ (l : List ℕ). p ∷ l) (S .are)); few = omega (arith, S .few); before = (ltb-true (p + 3) n e, S .before); reaches = λ h. S .reaches (omega arith) },
-        )
+    go true e (j, S) = (
+      suc j,
+      record { are = rw e (ap (λ (l : List ℕ). p ∷ l) (S .are)); few = omega (arith, S .few); before = (ltb-true (p + 3) n e, S .before); reaches = λ h. S .reaches (omega arith) },
+    )
     go false e x = (0, record { are = rw e refl; few = omega arith; before = tt; reaches = λ h. ltb-false (p + 3) n e })
 
 pub stands : (n p : ℕ) (l : List ℕ) → p + 3 < n → standing n (p ∷ l) ≡ p ∷ standing n l
