@@ -1,14 +1,14 @@
 -- The same with the bytes of records: places of 8 bytes, in a log of at most 2^64. Assumes nothing.
 use mathlib.Core.Path.{_≡_, refl, sym, ap, _∙_}
-use mathlib.Core.Logic.{_↔_}
+use mathlib.Core.Logic.{_⊎_, inl, inr, _↔_}
 use mathlib.Core.Bool.{Bool, true, false}
 use mathlib.Core.List.{List, [], _∷_, _++_, append-nil}
 use Prim.Native.Nat.{ℕ, zero, suc, _+_, _*_, _/_, _≤_, _<_}
 use native.Mathlib.Omega.{arith}
-use lib.Dec.{leb}
+use lib.Dec.{leb, ltb}
 use lib.ListN.{length, take, drop, getElem?, length-append}
 use lib.Seq.{take-at, take-length}
-use borrow.Author.Tests.{le-ltb, le-leb, lt-leb, leb-true, leb-false}
+use borrow.Author.Tests.{lt-ltb, le-ltb, le-leb, lt-leb, leb-true, leb-false}
 use Rattle.form.specs.Table.{plain}
 use Rattle.form.specs.Text.{items, All}
 use Rattle.numbers.specs.Number.{laid-in, values-in, over, Below}
@@ -74,6 +74,16 @@ found-built s w k h e =
     rw (built-all s (length w) (built-room s (length w) e), take-at (laid-in 8 rs) (drop (length (laid-in 8 rs)) w) (length rs * 8) n, m, r) (found-true s k)
 
 -- ---- updating
+
+-- an old length past the log's, or more old records than there is room for, is 15, whatever the room for the new ones
+pub updating-outside : (log : List ℕ) (n : ℕ) (w : List ℕ) (old : ℕ) → (length log < n) ⊎ (length w < old * 8) → updating log n w old ≡ refused 15
+unfolding updating
+updating-outside log n w old (inl h) = rw (lt-ltb (length log) n h) refl
+updating-outside log n w old (inr h) = go (ltb (length log) n) refl
+  where
+    go : (b : Bool) → ltb (length log) n ≡ b → updating log n w old ≡ refused 15
+    go true e = rw e refl
+    go false e = rw (e, lt-ltb (length w) (old * 8) h) refl
 
 -- the buffer has the bytes of the old log's first j records in front: after an append of t it is as if built anew
 pub updated-built : (s t w rest : List ℕ) (j : ℕ) → length s ≤ 18446744073709551616 → let rs = take j (log-index s) in

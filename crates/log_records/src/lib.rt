@@ -17,7 +17,7 @@ pub fn count_records(log: &[u8], from: usize, k: usize) -> usize
 {
     let mut at = from;
     let mut left = k;
-    let mut n: usize = 0;
+    let mut count: usize = 0;
     while at < log.len() {
         let i = item::item_of(&log[at..]);
         let end = at + i.span;
@@ -26,11 +26,11 @@ pub fn count_records(log: &[u8], from: usize, k: usize) -> usize
             at = end;
             continue;
         }
-        n += 1;
+        count += 1;
         left = BETWEEN;
         at = end;
     }
-    n
+    count
 }
 
 // Those records at the front of a buffer, as many as it has room for.

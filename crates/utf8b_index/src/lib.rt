@@ -20,12 +20,12 @@ fn wide(number: u8) -> u32
 pub extern "C" fn utf8b_index_build(log: &[u8], index: &mut [u8], records: &mut usize) -> u32
     ensures { λ r. ⌜ indexed r (now (index .exit)) (now (records .exit)) ≡ filled (building (now (log .entry)) (length (now (index .entry)))) (now (index .entry)) (now (records .entry)) ⌝ }
 {
-    let i = log_update::build(log, index);
-    if i.number == 0 {
-        *records = i.records;
+    let b = log_update::build(log, index);
+    if b.number == 0 {
+        *records = b.records;
         return 0;
     }
-    wide(i.number)
+    wide(b.number)
 }
 
 // The place of code k: 0 or 15.
@@ -73,10 +73,10 @@ pub extern "C" fn utf8b_index_update(
 ) -> u32
     ensures { λ r. ⌜ indexed r (now (index .exit)) (now (records .exit)) ≡ filled (updating (now (log .entry)) was (now (index .entry)) old) (now (index .entry)) (now (records .entry)) ⌝ }
 {
-    let i = log_update::update(log, was, index, old);
-    if i.number == 0 {
-        *records = i.records;
+    let u = log_update::update(log, was, index, old);
+    if u.number == 0 {
+        *records = u.records;
         return 0;
     }
-    wide(i.number)
+    wide(u.number)
 }

@@ -9,10 +9,10 @@ use Rattle.log_records.proofs.count_records.Statement.{statement}
 use Rattle.log_records.proofs.count_records.Tie as tie
 
 abbrev Inv-loop : tie.InvT-loop
-Inv-loop log from k at₀ left₀ n₀ at left n = Counts log from k at left n
+Inv-loop log from k at₀ left₀ count₀ at left count = Counts log from k at left count
 
 abbrev μ-loop : tie.MeasureT-loop
-μ-loop log from k at₀ left₀ n₀ at left n = length log - at
+μ-loop log from k at₀ left₀ count₀ at left count = length log - at
 
 abbrev place : tie.After-struct-known Inv-loop μ-loop → tie.At-loop Inv-loop μ-loop
 place c = c .before .before .before .before
