@@ -105,7 +105,7 @@ grown s t w h e =
     let g = updated-built s t (over (laid-in 8 rs) w) (drop (length (laid-in 8 rs)) w) (length rs) h in
     rw (built-all s (length w) a) (rw (take-length rs) at g refl ∙ ap (building (s ++ t)) n)
 
--- ---- an index of nothing
+-- ---- building is updating from nothing
 
 pub updated-none : (log w : List ℕ) → updating log 0 w 0 ≡ building log (length w)
 unfolding updating building updated log-index

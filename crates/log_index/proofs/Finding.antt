@@ -1,6 +1,5 @@
 -- What is found by a true index is what a full reading says. Assumes nothing.
 use mathlib.Core.Path.{_≡_, refl, sym, ap, _∙_}
-use mathlib.Core.Logic.{_↔_}
 use mathlib.Core.Option.{Option, none, some}
 use mathlib.Core.List.{List, [], _∷_, map}
 use Prim.Native.Nat.{ℕ, zero, suc, _+_, _*_, _/_, _%_, _≤_}
@@ -14,7 +13,7 @@ use Rattle.bounds.specs.Cover.{place}
 use Rattle.bounds.proofs.Bounds.{items-from}
 use Rattle.log_index.specs.Index.{starts, log-index, reached, finding}
 use Rattle.log_index.proofs.Lists.{elem-drop, elem-none, every-at}
-use Rattle.log_index.proofs.Starts.{starts-from, starts-count}
+use Rattle.log_index.proofs.Starts.{starts-from}
 
 -- the place of number m is that of its items
 start-place : (l : List Item) (q m p : ℕ) → getElem? (places q l) m ≡ some p → q + place m l ≡ p
@@ -35,19 +34,13 @@ found-true s k =
     let whole : 0 + k / 64 * 64 + k % 64 ≡ k = omega arith in
     ap (λ (a : Option ℕ). reached s a (k % 64)) (every-at (starts s 0) 0 (k / 64)) ∙ jumped s (0 + k / 64 * 64) (k % 64) (getElem? (starts s 0) (0 + k / 64 * 64)) refl ∙ ap (getElem? (starts s 0)) whole
 
--- 15 exactly past the last code
-pub found-none : (s : List ℕ) (k : ℕ) → (finding s (log-index s) k ≡ none) ↔ (length (items plain 0 s) ≤ k)
-found-none s k =
-    let (a, b) = elem-none (starts s 0) k in
-    (λ e. omega (arith, a (sym (found-true s k) ∙ e), starts-count s), λ h. found-true s k ∙ b (omega (arith, starts-count s)))
-
 map-drop : (j : ℕ) (l : List Item) → map code (drop j l) ≡ drop j (map code l)
 map-drop zero l = refl
 map-drop (suc j) [] = refl
 map-drop (suc j) (i ∷ l) = map-drop j l
 
--- reading from the place found gives the codes from number k on
-pub found-reads : (s : List ℕ) (k p : ℕ) → finding s (log-index s) k ≡ some p → read plain (drop p s) ≡ drop k (read plain s)
-found-reads s k p e =
-    let q : place k (items plain 0 s) ≡ p = omega (arith, start-place (items plain 0 s) 0 k p (sym (found-true s k) ∙ e)) in
+-- reading from the place of code k on gives the codes from number k on
+pub start-reads : (s : List ℕ) (k p : ℕ) → getElem? (starts s 0) k ≡ some p → read plain (drop p s) ≡ drop k (read plain s)
+start-reads s k p e =
+    let q : place k (items plain 0 s) ≡ p = omega (arith, start-place (items plain 0 s) 0 k p e) in
     sym (sym (map-drop k (items plain 0 s)) ∙ ap (map code) (items-from plain (plain-regular .is-open) k s ∙ ap (λ (r : ℕ). items plain 0 (drop r s)) q))

@@ -4,3 +4,4 @@ pub mod Finding
 pub mod Standing
 pub mod Fresh
 pub mod Bytes
+pub mod Request

@@ -14,7 +14,8 @@ use Rattle.numbers.proofs.Filled.{Filled, filled-part, filled-more}
 use Rattle.log_index.specs.Index.{starts, every, onward}
 use Rattle.log_index.specs.Update.{standing, resumed, updated, Indexing, fitting, updating}
 use Rattle.log_index.proofs.Starts.{starts-some}
-use Rattle.log_index.proofs.Standing.{Stand, stand}
+use Rattle.log_index.specs.Request.{StandFirst}
+use Rattle.log_index.proofs.Standing.{stand-first}
 use Rattle.log_update.specs.Resumption.{lastOf, resumeOf, skipOf}
 use Rattle.log_update.specs.Answer.{indexedOf}
 use Rattle.log_update.specs.declared.Resume.{Resume}
@@ -61,7 +62,7 @@ module _ (log w : List ℕ) (n old : ℕ) where
     -- what stands is the front of what was there
     front : (S ≡ values-in 8 (r .count) w) × (r .count ≤ old)
     front =
-        let (j, s) = stand n (values-in 8 old w) in
+        let (j, s) = stand-first n (values-in 8 old w) in
         let a : j ≤ old = omega (arith, s .few, values-length 8 old w) in
         let f : S ≡ values-in 8 j w = s .are ∙ values-take 8 j old w a in
         let c : j ≡ r .count = sym (count-is ∙ ap length f ∙ values-length 8 j w) in
@@ -78,7 +79,7 @@ module _ (log w : List ℕ) (n old : ℕ) where
       all-are : updated log n (values-in 8 old w) ≡ S ++ E
       unfolding updated
       all-are =
-          let (j, s) = stand n (values-in 8 old w) in
+          let (j, s) = stand-first n (values-in 8 old w) in
           resumed-behind log S n (rw (s .are) (s .before)) h
           ∙ ap (λ (k : ℕ). S ++ every k (starts log (lastOf 0 S))) (sym (f ∙ ap skipOf count-is))
           ∙ ap (λ (p : ℕ). S ++ every skip (starts log p)) (sym place-is)

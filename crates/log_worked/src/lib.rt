@@ -1,0 +1,1 @@
+// Statements alone: lines of the request C-17, worked by hand.
