@@ -45,7 +45,7 @@ extern "C" {
 /* Numbers that the calls on an index answer.  After all but the first, nothing has been changed. */
 #define UTF8B_DONE 0u      /* the results are filled in */
 #define UTF8B_NO_ROOM 1u   /* the index would be longer than index_len */
-#define UTF8B_OUTSIDE 15u  /* a code, byte or record that is not there, or a place at or past the end */
+#define UTF8B_OUTSIDE 15u  /* a code, byte or record that is not there, or an old length past the log's */
 
 #define UTF8B_REPORT 9      /* bytes in a report: a count in 8, low byte first, and a length in 1 */
 #define UTF8B_LIMIT 1048576 /* most bytes in an input or output; the calls on an index have no limit */
@@ -134,8 +134,8 @@ uint32_t utf8b_index_build(const uint8_t *log, size_t log_len,
 
 /*
  * Finds code k, from 0: *place gets the byte where it starts.  It reads one record, and
- * the bytes of at most 63 items from there on.  index_len is the length of the records
- * alone, 8 bytes for each.
+ * walks over at most 63 items from the place recorded on, at most 252 bytes of the log.
+ * index_len is the length of the records alone, 8 bytes for each.
  *
  * Answers UTF8B_DONE; or UTF8B_OUTSIDE where the log has no code k, the index has no
  * record for it, or a place recorded or reached is not inside the log.  An index that is
@@ -164,9 +164,13 @@ uint32_t utf8b_index_cover(const uint8_t *log, size_t log_len,
  * number, which may be one less, since F0 9F 92 is three codes and F0 9F 92 A7 is one.
  * Bytes of index beyond the records stay as they are: hand on only 8 * *records of them.
  *
- * If the records were those of the log's first old_len bytes, they are then those that
- * utf8b_index_build would give.  Answers UTF8B_DONE; UTF8B_OUTSIDE where old_len is more
- * than log_len, or old_records more than index has room for; or else UTF8B_NO_ROOM.
+ * If the records were those of the log's first old_len bytes, or the first of them, they
+ * are then those that utf8b_index_build would give.  Others are taken as they are: those
+ * before the first whose place + 3 reaches old_len stand, and the walk goes on from the
+ * last of these.
+ *
+ * Answers UTF8B_DONE; UTF8B_OUTSIDE where old_len is more than log_len, or old_records
+ * more than index has room for; or else UTF8B_NO_ROOM where the records do not fit.
  */
 uint32_t utf8b_index_update(const uint8_t *log, size_t log_len,
                             size_t old_len, size_t old_records,

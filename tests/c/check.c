@@ -11,7 +11,7 @@
 #include <string.h>
 #include <unistd.h>
 
-enum { MOST_FAILURES = 10, MOST_SHOWN = 40 };
+enum { MOST_FAILURES = 10, MOST_SHOWN = 80 };
 
 /* Memory for the input, the output and the report, small to large. */
 static struct memory {
@@ -20,7 +20,8 @@ static struct memory {
 } memories[] = {{.most = 1000}, {.most = 8000}, {.most = 16000}, {.most = 60000}, {.most = 1048576 + 8}};
 
 static const char *test = "";
-static const struct call *current;
+static const void *current;
+static void (*show_current)(const void *call);
 static unsigned long compared, failures;
 
 int64_t enter(int decode, const uint8_t *in, size_t in_len, uint8_t *out, size_t out_len, uint32_t flags,
@@ -35,7 +36,7 @@ int64_t enter(int decode, const uint8_t *in, size_t in_len, uint8_t *out, size_t
     return utf8b_encode(in, in_len, out, out_len, flags, report, report_len);
 }
 
-static void show_bytes(const char *name, const uint8_t *s, size_t n)
+void show_bytes(const char *name, const uint8_t *s, size_t n)
 {
     printf("  %s, %zu bytes:", name, n);
     for (size_t i = 0; i < n && i < MOST_SHOWN; i++)
@@ -43,20 +44,22 @@ static void show_bytes(const char *name, const uint8_t *s, size_t n)
     puts(n > MOST_SHOWN ? " .." : "");
 }
 
-static void show_call(const struct call *c)
+static void show_call(const void *call)
 {
+    const struct call *c = call;
+
     printf("  utf8b_%s%s, flags %" PRIu32 ", out_len %zu, report_len %zu\n", cesu8 ? "cesu8_" : "",
            c->decode ? "decode" : "encode", c->flags, c->out_len, c->report_len);
     show_bytes("input", c->in, c->in_len);
 }
 
-static void failed(const char *what)
+void check_failed(const char *what)
 {
     printf("%s: %s\n", test, what);
     failures++;
 }
 
-static void stop_if_many(void)
+void check_go_on(void)
 {
     if (failures >= MOST_FAILURES) {
         puts("too many differences");
@@ -69,9 +72,21 @@ static void touched(int signal)
 {
     printf("%s: signal %d: a touch outside the buffers\n", test, signal);
     if (current)
-        show_call(current);
+        show_current(current);
     fflush(stdout);
     _exit(1);
+}
+
+void check_enter(const void *call, void (*show)(const void *call))
+{
+    current = call;
+    show_current = show;
+}
+
+void check_leave(void)
+{
+    current = NULL;
+    compared++;
 }
 
 static const struct memory *memory_for(const struct call *c)
@@ -110,19 +125,18 @@ static void check_side(const struct call *c, const struct outcome *o, enum side 
         expected[i] = (uint8_t)(o->consumed >> (8 * i));
     expected[8] = o->bad_length;
 
-    current = c;
+    check_enter(c, show_call);
     answer = enter(c->decode, in, c->in_len, out, c->out_len, c->flags, report, c->report_len);
-    current = NULL;
-    compared++;
+    check_leave();
 
     if (answer != o->answer)
-        failed("another answer");
+        check_failed("another answer");
     if (!guarded_holds(&m->in, in, c->in, c->in_len))
-        failed("the input is changed");
+        check_failed("the input is changed");
     if (!guarded_holds(&m->out, out, o->out, o->written))
-        failed("other bytes in the output, or changed beyond it");
+        check_failed("other bytes in the output, or changed beyond it");
     if (!guarded_holds(&m->report, report, expected, o->reported ? REPORT : 0))
-        failed("another report, or changed beyond it");
+        check_failed("another report, or changed beyond it");
     if (failures == before)
         return;
     show_call(c);
@@ -132,7 +146,7 @@ static void check_side(const struct call *c, const struct outcome *o, enum side 
     show_bytes("output", out, o->written);
     if (c->report_len == REPORT)
         show_bytes("report", report, REPORT);
-    stop_if_many();
+    check_go_on();
 }
 
 void check_call(const struct call *c, const struct outcome *o)
@@ -155,8 +169,8 @@ void check_that(int holds, const char *what)
 {
     compared++;
     if (!holds)
-        failed(what);
-    stop_if_many();
+        check_failed(what);
+    check_go_on();
 }
 
 void check_begin(const char *name)

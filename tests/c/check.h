@@ -19,6 +19,19 @@ void check_model(const struct call *c);
 /* Counts one comparison of another kind; prints what if it does not hold. */
 void check_that(int holds, const char *what);
 
+/* For a check of other calls.  From enter to leave, a touch of a forbidden page shows the call; leave counts it. */
+void check_enter(const void *call, void (*show)(const void *call));
+void check_leave(void);
+
+/* Counts one difference and prints what it is. */
+void check_failed(const char *what);
+
+/* Ends the test where the differences are too many. */
+void check_go_on(void);
+
+/* Prints the first of n bytes. */
+void show_bytes(const char *name, const uint8_t *s, size_t n);
+
 /* Prints the counts; the exit status of the test. */
 int check_end(void);
 

@@ -39,6 +39,23 @@ struct guarded guarded_new(size_t size)
     return g;
 }
 
+struct guarded guarded_amid(size_t before, size_t after)
+{
+    size_t page = (size_t)sysconf(_SC_PAGESIZE);
+    struct guarded g = {NULL, page};
+    uint8_t *map = mmap(NULL, before + page + after, PROT_NONE, MAP_PRIVATE | MAP_ANONYMOUS | MAP_NORESERVE, -1, 0);
+
+    if (map == MAP_FAILED)
+        return g;
+    if (mprotect(map + before, page, PROT_READ | PROT_WRITE)) {
+        perror("guarded memory");
+        exit(1);
+    }
+    g.base = map + before;
+    pattern_grow(g.size);
+    return g;
+}
+
 uint8_t *guarded_place(const struct guarded *g, size_t len, enum side side)
 {
     return side == AT_END ? g->base + g->size - len : g->base;

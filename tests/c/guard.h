@@ -16,6 +16,9 @@ enum side { AT_END, AT_START };
 /* size is rounded up to whole pages. */
 struct guarded guarded_new(size_t size);
 
+/* One page with so many forbidden bytes before and after it, whole pages of them; base is null if there is no such span. */
+struct guarded guarded_amid(size_t before, size_t after);
+
 uint8_t *guarded_place(const struct guarded *g, size_t len, enum side side);
 
 /* Fills all of g with a pattern. */

@@ -1,4 +1,4 @@
-// The header from C++: `40′` is read and written back.
+// The header from C++: `40′` is read and written back, and found in an index.
 #include "utf8b.h"
 
 #include <cstdio>
@@ -43,7 +43,24 @@ int main()
     same(UTF8B_REFUSED_FLAGS, utf8b_cesu8_encode(codes, 4, back, 20, UTF8B_SURRO, report, UTF8B_REPORT), "flags");
     static uint8_t long_input[UTF8B_LIMIT + 1];
     same(UTF8B_REFUSED_LENGTH, utf8b_decode(long_input, sizeof long_input, codes, 20, 0, report, UTF8B_REPORT), "length");
+
+    uint8_t index[UTF8B_INDEX_RECORD];
+    size_t records = 9, place = 9, start = 9, length = 9;
+    uint32_t code = 9;
+    same(UTF8B_NO_ROOM, utf8b_index_build(line, 4, index, sizeof index - 1, &records), "no room for an index");
+    same(UTF8B_DONE, utf8b_index_build(line, 4, index, sizeof index, &records), "an index");
+    same(UTF8B_DONE, utf8b_index_update(line, sizeof line, 4, records, index, sizeof index, &records), "an index updated");
+    same(1, (long long)records, "its records");
+    same(0, (long long)utf8b_index_place(index, 0), "its record");
+    same(UTF8B_DONE, utf8b_index_find(line, sizeof line, index, sizeof index, 2, &place), "a code found");
+    same(2, (long long)place, "its place");
+    same(UTF8B_OUTSIDE, utf8b_index_find(line, sizeof line, index, sizeof index, 3, &place), "a code past the end");
+    same(UTF8B_DONE, utf8b_index_cover(line, sizeof line, 3, &start, &length, &code), "a byte covered");
+    same(2, (long long)start, "its item's start");
+    same(3, (long long)length, "its item's length");
+    same(0x2032, code, "its item's code");
+    same(16, (long long)utf8b_index_room(65), "room for an index");
     if (differences == 0)
-        std::puts("20 answers compared, 0 differences");
+        std::puts("33 answers compared, 0 differences");
     return differences != 0;
 }

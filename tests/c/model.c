@@ -80,6 +80,18 @@ static uint32_t code_of(const uint8_t *s, size_t length)
     return sum - offset[length];
 }
 
+size_t front_item(const uint8_t *s, size_t n, uint32_t flags, uint32_t *code)
+{
+    size_t length = sequence(s, n, flags);
+
+    if (length == 0 || n < length) {
+        *code = 0xDC00u + s[0];
+        return 1;
+    }
+    *code = code_of(s, length);
+    return length;
+}
+
 uint32_t code_at(const uint8_t *codes, size_t i)
 {
     const uint8_t *p = codes + 4 * i;
@@ -102,6 +114,7 @@ static int read_codes(const struct call *c, struct outcome *o)
     for (;;) {
         const uint8_t *s = c->in + i;
         size_t n = c->in_len - i, length;
+        uint32_t code;
 
         o->consumed = i;
         o->written = 4 * made;
@@ -126,16 +139,13 @@ static int read_codes(const struct call *c, struct outcome *o)
             number = 1;
             break;
         }
-        if (length) {
-            set_code(o->out, made, code_of(s, length));
-            i += length;
-        } else if (c->flags & UTF8B_SHOW) {
-            set_code(o->out, made, 0xFFFD);
+        if (length == 0 && (c->flags & UTF8B_SHOW)) {
+            code = 0xFFFD;
             i += maximal_subpart(s, n, c->flags);
         } else {
-            set_code(o->out, made, 0xDC00u + s[0]);
-            i++;
+            i += front_item(s, n, c->flags, &code);
         }
+        set_code(o->out, made, code);
         made++;
     }
     return number;

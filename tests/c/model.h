@@ -31,6 +31,9 @@ struct outcome {
 /* out must have room for out_len bytes of the call. */
 void model(const struct call *c, struct outcome *o);
 
+/* The item at the front of s, read with the flags and LAST: how many bytes it has, and its code.  n is at least 1. */
+size_t front_item(const uint8_t *s, size_t n, uint32_t flags, uint32_t *code);
+
 uint32_t code_at(const uint8_t *codes, size_t i);
 void set_code(uint8_t *codes, size_t i, uint32_t code);
 

@@ -1,11 +1,12 @@
 /* The stack that the entries use. */
 #define _DEFAULT_SOURCE
 #include "tests.h"
+#include "utf8b.h"
 
 #include <signal.h>
 #include <string.h>
 
-/* Both entries run in a signal handler, on a painted stack of its own. */
+/* The entries run in a signal handler, on a painted stack of its own. */
 
 enum { STACK = 65536, STACK_MOST = 8192, PAINT = 0x5A };
 
@@ -15,12 +16,18 @@ static size_t stack_used;
 static void on_own_stack(int signal)
 {
     static uint8_t in[4096], out[4096], report[REPORT];
+    static size_t number, length;
+    static uint32_t code;
     uint8_t here = (uint8_t)signal;
     size_t free_below = (size_t)(&here - stack) - 512, i = 0;
 
     memset(stack, PAINT, free_below);
     enter(DECODE, in, sizeof in, out, sizeof out, 1, report, sizeof report);
     enter(ENCODE, in, sizeof in, out, sizeof out, 1, report, sizeof report);
+    utf8b_index_build(in, sizeof in, out, sizeof out, &number);
+    utf8b_index_update(in, sizeof in, sizeof in - 99, number, out, sizeof out, &number);
+    utf8b_index_find(in, sizeof in, out, sizeof out, 999, &number);
+    utf8b_index_cover(in, sizeof in, 999, &number, &length, &code);
     while (i < free_below && stack[i] == PAINT)
         i++;
     stack_used = free_below + 512 - i;

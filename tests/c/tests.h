@@ -40,5 +40,6 @@ void test_stretches(void);
 void test_byte_places(void);
 void test_pieces(void);
 void test_stack(void);
+void test_index(void);
 
 #endif

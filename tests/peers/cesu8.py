@@ -322,7 +322,7 @@ def main(library, probe):
     compare_refusals(library)
     compare_steps(probe)
     compare_held(probe)
-    return total(with_show)
+    return total(f'{with_show} of them with SHOW')
 
 
 sys.exit(main(*sys.argv[1:]))

@@ -214,7 +214,7 @@ def main(library, probe):
     compare_writes(library)
     compare_refusals(library)
     compare_steps(probe)
-    return total(with_show)
+    return total(f'{with_show} of them with SHOW')
 
 
 sys.exit(main(*sys.argv[1:]))

@@ -1,4 +1,4 @@
-"""What the comparisons with CPython share: cpython.py for UTF-8, cesu8.py for CESU-8."""
+"""What the comparisons with CPython share: cpython.py for UTF-8, cesu8.py for CESU-8, index.py for an index."""
 
 import codecs
 import ctypes
@@ -48,9 +48,9 @@ def compare(expected, answer, *what):
         sys.exit('too many differences')
 
 
-def total(with_show):
-    """Says how much was compared; the exit status."""
-    print(f'{compared} comparisons, {with_show} of them with SHOW, {differences} differences')
+def total(*parts):
+    """Says how much was compared, and what is said of parts of it; the exit status."""
+    print(f'{compared} comparisons', *parts, f'{differences} differences', sep=', ')
     return differences != 0
 
 

@@ -7,6 +7,9 @@ use lib.ListN.{length, getD}
 use Rattle.form.specs.Table.{plain}
 use Rattle.form.specs.Scan.{Found, well, part, bad, scan}
 use Rattle.form.specs.Text.{Item, coded, stray, item}
+use Rattle.form.proofs.Laws.{Scans}
+use Rattle.form.proofs.Utf8.{plain-scans}
+use Rattle.form.proofs.EncodingForms.{EncodingForm, plain-form}
 use Rattle.front.specs.Front.{Told, told, toldOf}
 use Rattle.front.specs.declared.Front.{Front}
 use Rattle.front.specs.declared.Front.the-variants.{Well, Partial, Bad}
@@ -34,3 +37,18 @@ pub by-front : (f : Front) (s : List ℕ) → 0 < length s → told f ≡ toldOf
 unfolding leafOf
 by-front f [] h e = absurd (omega arith)
 by-front f (b ∷ t) h e = ap leaf (by-found f b t (scan plain (b ∷ t)) e)
+
+-- ---- the span alone
+
+pub span-none : (s : List ℕ) → length s ≡ 0 → 0 ≡ leafOf s .span
+unfolding leafOf
+span-none [] e = refl
+span-none (b ∷ s) e = absurd (omega arith)
+
+-- a byte below 80 is an item by itself
+pub span-ascii : (s : List ℕ) → 0 < length s → getD s 0 0 < 0x80 → 1 ≡ leafOf s .span
+unfolding leafOf
+span-ascii [] h l = absurd (omega arith)
+span-ascii (b ∷ s) h l =
+    let e : scan plain (b ∷ s) ≡ well b 1 = plain-scans .finds-well (b ∷ s) b 1 .1 (plain-form .ascii (b ∷ []) b l .1 refl, omega arith) in
+    rw e refl

@@ -57,10 +57,25 @@ here s at r h e = go (drop at s) refl
           items-are = ap (items plain 0) f ∙ ap (λ (l : List Item). i ∷ l) (items-skip plain (more i) u ∙ ap (items plain 0) d);
         }
 
--- where the items start that stand from p on
-pub here-places : (s : List ℕ) (at : ℕ) (r : Leaf) → Here s at r → (p : ℕ) → places p (items plain 0 (drop at s)) ≡ p ∷ places (p + r .span) (items plain 0 (drop (at + r .span) s))
-here-places s at r h p = ap (places p) (h .items-are) ∙ ap (λ (k : ℕ). p ∷ places (p + k) (items plain 0 (drop (at + r .span) s))) (sym (h .span-is))
-
 -- as a caller has it of `&s[at..]`
 pub here-part : (s : List ℕ) (at : ℕ) (r : Leaf) → at < length s → r ≡ leafOf (take (length s - at) (drop at s)) → Here s at r
 here-part s at r h e = here s at r h (e ∙ ap leafOf (part-to-end s at))
+
+-- ---- the span alone
+
+-- the item at a place takes n bytes, and where those behind it start
+pub record Step (s : List ℕ) (at n : ℕ) : Type 0 where
+  pub some : 0 < n
+  pub within : at + n ≤ length s
+  pub places-are : (p : ℕ) → places p (items plain 0 (drop at s)) ≡ p ∷ places (p + n) (items plain 0 (drop (at + n) s))
+
+-- as a caller has it of `&s[at..]`
+pub step-part : (s : List ℕ) (at n : ℕ) → at < length s → n ≡ leafOf (take (length s - at) (drop at s)) .span → Step s at n
+step-part s at n h e =
+    let r = leafOf (take (length s - at) (drop at s)) in
+    let H = here-part s at r h refl in
+    rw e (record {
+      some = H .some;
+      within = H .within;
+      places-are = λ p. ap (places p) (H .items-are) ∙ ap (λ (k : ℕ). p ∷ places (p + k) (items plain 0 (drop (at + r .span) s))) (sym (H .span-is));
+    })

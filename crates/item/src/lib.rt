@@ -55,3 +55,17 @@ pub fn item_of(s: &[u8]) -> Leaf
     let f = front::front_of(Form::Plain, s);
     of_front(f, s[0])
 }
+
+// How many bytes that item takes: a walk that wants no code passes over ASCII by one test.
+pub fn span_of(s: &[u8]) -> usize
+    ensures { λ r. ⌜ r ≡ leafOf (now (s .entry)) .span ⌝ }
+{
+    if s.len() == 0 {
+        return 0;
+    }
+    if s[0] < 0x80 {
+        return 1;
+    }
+    let i = item_of(s);
+    i.span
+}

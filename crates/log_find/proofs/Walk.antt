@@ -4,8 +4,7 @@ use mathlib.Core.List.{List, [], _∷_}
 use Prim.Native.Nat.{ℕ, suc, _+_, _-_, _≤_, _<_}
 use native.Mathlib.Omega.{arith}
 use lib.ListN.{length, getElem?}
-use Rattle.item.specs.declared.Leaf.{Leaf}
-use Rattle.item.proofs.Here.{Here, here-places}
+use Rattle.item.proofs.Here.{Step}
 use Rattle.log_index.specs.Index.{starts}
 use Rattle.log_index.proofs.Starts.{starts-none, starts-some}
 use Rattle.log_find.specs.Answer.{placeOf}
@@ -19,10 +18,10 @@ pub walking-start : (s : List ℕ) (from n : ℕ) → Walking s from n from n
 walking-start s from n = record { rest = refl }
 
 module _ (s : List ℕ) (from n at left : ℕ) (W : Walking s from n at left) where
-  pub walking-on : (r : Leaf) → Here s at r → 0 < left → Walking s from n (at + r .span) (left - 1)
-  walking-on r h g =
+  pub walking-on : (k : ℕ) → Step s at k → 0 < left → Walking s from n (at + k) (left - 1)
+  walking-on k h g =
       let z : left ≡ suc (left - 1) = omega arith in
-      record { rest = W .rest ∙ ap (getElem? (starts s at)) z ∙ ap (λ (l : List ℕ). getElem? l (suc (left - 1))) (here-places s at r h at) }
+      record { rest = W .rest ∙ ap (getElem? (starts s at)) z ∙ ap (λ (l : List ℕ). getElem? l (suc (left - 1))) (h .places-are at) }
 
   pub walking-here : at < length s → left ≡ 0 → _≡_ {A = Place} (record { number = 0; place = at }) (placeOf (getElem? (starts s from) n))
   walking-here h e = sym (ap placeOf (W .rest ∙ ap (getElem? (starts s at)) e ∙ ap (λ (l : List ℕ). getElem? l 0) (starts-some s at h)))

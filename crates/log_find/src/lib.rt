@@ -28,8 +28,7 @@ fn walk_on(log: &[u8], from: usize, n: usize) -> Place
                 place: at,
             };
         }
-        let i = item::item_of(&log[at..]);
-        at += i.span;
+        at += item::span_of(&log[at..]);
         left -= 1;
     }
     Place {

@@ -4,8 +4,7 @@ use mathlib.Core.List.{List, [], _∷_, _++_}
 use Prim.Native.Nat.{ℕ, _+_, _-_, _≤_, _<_}
 use native.Mathlib.Omega.{arith}
 use lib.ListN.{length, length-append}
-use Rattle.item.specs.declared.Leaf.{Leaf}
-use Rattle.item.proofs.Here.{Here}
+use Rattle.item.proofs.Here.{Step}
 use Rattle.log_index.specs.Index.{starts, every}
 use Rattle.log_records.proofs.Walk.{Reached, reached-start, reached-pass, reached-record, reached-end}
 
@@ -18,12 +17,12 @@ pub counts-start : (s : List ℕ) (from k : ℕ) → Counts s from k from k 0
 counts-start s from k = record { done = []; so-far = refl; reached = reached-start s from k }
 
 module _ (s : List ℕ) (from k at left n : ℕ) (K : Counts s from k at left n) where
-  pub counts-pass : (r : Leaf) → Here s at r → 0 < left → Counts s from k (at + r .span) (left - 1) n
-  counts-pass r h g = record { done = K .done; so-far = K .so-far; reached = reached-pass s from k (K .done) at left r (K .reached) h g }
+  pub counts-pass : (i : ℕ) → Step s at i → 0 < left → Counts s from k (at + i) (left - 1) n
+  counts-pass i h g = record { done = K .done; so-far = K .so-far; reached = reached-pass s from k (K .done) at left i (K .reached) h g }
 
-  pub counts-record : (r : Leaf) → Here s at r → left ≤ 0 → Counts s from k (at + r .span) 63 (n + 1)
-  counts-record r h g =
-      record { done = K .done ++ (at ∷ []); so-far = length-append (K .done) (at ∷ []) ∙ omega (arith, K .so-far); reached = reached-record s from k (K .done) at left r (K .reached) h g }
+  pub counts-record : (i : ℕ) → Step s at i → left ≤ 0 → Counts s from k (at + i) 63 (n + 1)
+  counts-record i h g =
+      record { done = K .done ++ (at ∷ []); so-far = length-append (K .done) (at ∷ []) ∙ omega (arith, K .so-far); reached = reached-record s from k (K .done) at left i (K .reached) h g }
 
   pub counts-end : length s ≤ at → n ≡ length (every k (starts s from))
   counts-end h = sym (ap length (reached-end s from k (K .done) at left (K .reached) h) ∙ K .so-far)

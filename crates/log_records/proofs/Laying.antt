@@ -6,8 +6,7 @@ use native.Mathlib.Omega.{arith}
 use lib.ListN.{length, take, length-append}
 use lib.Seq.{take-all, take-at}
 use borrow.Rule.Slice.PartMut.{midOf, putMid, mid-len}
-use Rattle.item.specs.declared.Leaf.{Leaf}
-use Rattle.item.proofs.Here.{Here}
+use Rattle.item.proofs.Here.{Step}
 use Rattle.numbers.specs.Number.{low-first, laid-in, over}
 use Rattle.numbers.proofs.Laws.{low-length, laid-length, laid-append}
 use Rattle.numbers.proofs.Filled.{Filled, filled-none, filled-same, filled-next}
@@ -28,12 +27,12 @@ module _ (s : List ℕ) (from k : ℕ) (out₀ out : List ℕ) (at left n : ℕ)
   width : length (laid-in 8 (K .done)) ≡ n * 8
   width = laid-length 8 (K .done) ∙ ap (λ (j : ℕ). j * 8) (K .so-far)
 
-  pub laid-pass : (r : Leaf) → Here s at r → 0 < left → Laid s from k out₀ out (at + r .span) (left - 1) n
-  laid-pass r h g = record { done = K .done; so-far = K .so-far; same = K .same; filled = K .filled; reached = reached-pass s from k (K .done) at left r (K .reached) h g }
+  pub laid-pass : (i : ℕ) → Step s at i → 0 < left → Laid s from k out₀ out (at + i) (left - 1) n
+  laid-pass i h g = record { done = K .done; so-far = K .so-far; same = K .same; filled = K .filled; reached = reached-pass s from k (K .done) at left i (K .reached) h g }
 
-  pub laid-record : (r : Leaf) → Here s at r → left ≤ 0 → n < length out / 8 → (ys : List ℕ) → ys ≡ low-first (length (midOf (n * 8) (n * 8 + 8 - n * 8) out)) at
-      → Laid s from k out₀ (putMid (n * 8) (n * 8 + 8 - n * 8) out ys) (at + r .span) 63 (n + 1)
-  laid-record r h e g ys f =
+  pub laid-record : (i : ℕ) → Step s at i → left ≤ 0 → n < length out / 8 → (ys : List ℕ) → ys ≡ low-first (length (midOf (n * 8) (n * 8 + 8 - n * 8) out)) at
+      → Laid s from k out₀ (putMid (n * 8) (n * 8 + 8 - n * 8) out ys) (at + i) 63 (n + 1)
+  laid-record i h e g ys f =
       let d = K .done in
       let m : length (midOf (n * 8) (n * 8 + 8 - n * 8) out) ≡ 8 = mid-len (n * 8) (n * 8 + 8) out (omega arith) ∙ (let z : n * 8 + 8 - n * 8 ≡ 8 = omega arith in z) in
       let y : ys ≡ low-first 8 at = f ∙ ap (λ (j : ℕ). low-first j at) m in
@@ -44,7 +43,7 @@ module _ (s : List ℕ) (from k : ℕ) (out₀ out : List ℕ) (at left n : ℕ)
         so-far = length-append d (at ∷ []) ∙ omega (arith, K .so-far);
         same = filled-same out₀ (putMid (n * 8) (n * 8 + 8 - n * 8) out ys) (laid-in 8 (d ++ (at ∷ []))) f;
         filled = f;
-        reached = reached-record s from k d at left r (K .reached) h e;
+        reached = reached-record s from k d at left i (K .reached) h e;
       }
 
   -- those that were written are all that there is room for

@@ -19,8 +19,7 @@ pub fn count_records(log: &[u8], from: usize, k: usize) -> usize
     let mut left = k;
     let mut count: usize = 0;
     while at < log.len() {
-        let i = item::item_of(&log[at..]);
-        let end = at + i.span;
+        let end = at + item::span_of(&log[at..]);
         if 0 < left {
             left -= 1;
             at = end;
@@ -41,8 +40,7 @@ pub fn lay_records(log: &[u8], from: usize, k: usize, out: &mut [u8])
     let mut left = k;
     let mut n: usize = 0;
     while at < log.len() {
-        let i = item::item_of(&log[at..]);
-        let end = at + i.span;
+        let end = at + item::span_of(&log[at..]);
         if 0 < left {
             left -= 1;
             at = end;

@@ -4,7 +4,7 @@ use Prim.Native.Nat.{ℕ, _+_, _-_, _*_}
 use native.Mathlib.Omega.{arith}
 use lib.ListN.{length}
 use borrow.Author.Needs.{needs}
-use Rattle.item.proofs.Here.{Here, here-part}
+use Rattle.item.proofs.Here.{Step, step-part}
 use Rattle.log_records.proofs.Laying.{Laid, laid-start, laid-pass, laid-record, laid-full, laid-end}
 use Rattle.log_records.proofs.lay_records.Statement.{statement}
 use Rattle.log_records.proofs.lay_records.Tie as tie
@@ -15,17 +15,17 @@ Inv-loop log from k out₀ at₀ left₀ n₀ out at left n = Laid log from k ou
 abbrev μ-loop : tie.MeasureT-loop
 μ-loop log from k out₀ at₀ left₀ n₀ out at left n = length log - at
 
-abbrev place : tie.After-struct-known Inv-loop μ-loop → tie.At-loop Inv-loop μ-loop
-place c = c .before .before .before .before
+abbrev place : tie.After-span-of Inv-loop μ-loop → tie.At-loop Inv-loop μ-loop
+place c = c .before .before .before
 
 abbrev start : tie.At-loop Inv-loop μ-loop → tie.Start Inv-loop μ-loop
 start c = c .before .before .before
 
-stands : (c : tie.After-struct-known Inv-loop μ-loop) → Here (start (place c) .args .log .now) (place c .loop .at) (c .before .item-of .result)
-stands c = here-part _ _ _ (omega arith) (c .before .item-of .ensures)
+step : (c : tie.After-span-of Inv-loop μ-loop) → Step (start (place c) .args .log .now) (place c .loop .at) (c .span-of .result)
+step c = step-part _ _ _ (omega arith) (c .span-of .ensures)
 
 -- the turn that puts a record
-abbrev turn : tie.After-slice-known2 Inv-loop μ-loop → tie.After-struct-known Inv-loop μ-loop
+abbrev turn : tie.After-slice-known2 Inv-loop μ-loop → tie.After-span-of Inv-loop μ-loop
 turn c = c .before .before .before .before .before .before
 
 pub lay-records-spec : {M : Type 1} → statement M
@@ -39,10 +39,10 @@ lay-records-spec =
     (λ c. omega arith)
     (λ c. omega arith)
     (λ c κs. search needs)
-    (λ c. omega (arith, stands c .within))
+    (λ c. omega (arith, step c .within))
     (λ c. omega arith)
-    (λ c. let d = c .before in omega (arith, stands d .some, stands d .within))
-    (λ c. let d = c .before in laid-pass _ _ _ _ _ _ _ _ (place d .loop .inv) _ (stands d) (omega arith))
+    (λ c. let d = c .before in omega (arith, step d .some, step d .within))
+    (λ c. let d = c .before in laid-pass _ _ _ _ _ _ _ _ (place d .loop .inv) _ (step d) (omega arith))
     (λ c. place (c .before .before) .loop .inv .same)
     (λ c. laid-full _ _ _ _ _ _ _ _ (place (c .before .before) .loop .inv) (omega arith))
     (λ c. omega arith)
@@ -52,7 +52,7 @@ lay-records-spec =
     (λ c. omega arith)
     (λ c κs. search needs)
     (λ c. omega arith)
-    (λ c. let d = turn c in omega (arith, stands d .some, stands d .within))
-    (λ c. let d = turn c in laid-record _ _ _ _ _ _ _ _ (place d .loop .inv) _ (stands d) (omega arith) (omega arith) _ (c .before .before .put .ensures))
+    (λ c. let d = turn c in omega (arith, step d .some, step d .within))
+    (λ c. let d = turn c in laid-record _ _ _ _ _ _ _ _ (place d .loop .inv) _ (step d) (omega arith) (omega arith) _ (c .before .before .put .ensures))
     (λ c. c .before .loop .inv .same)
     (λ c. laid-end _ _ _ _ _ _ _ _ (c .before .loop .inv) (omega arith)))
