@@ -4,7 +4,7 @@
 #include <stdlib.h>
 #include <string.h>
 
-static uint32_t below(uint32_t n)
+uint32_t below(uint32_t n)
 {
     static uint64_t x = 88172645463325252u;
 
@@ -85,12 +85,14 @@ static size_t put_code(uint8_t *s, uint32_t code)
 }
 
 /* A text ends with full stops where the next code might not fit. */
-static void fill(struct text *t, uint32_t (*next)(void))
+void fill(const struct corpus *c, uint8_t *bytes, size_t len)
 {
-    while (next && t->len + 4 <= WHOLE)
-        t->len += put_code(t->bytes + t->len, next());
-    for (; t->len < WHOLE; t->len++)
-        t->bytes[t->len] = next ? '.' : (uint8_t)below(256);
+    size_t at = 0;
+
+    while (c->next && len - at >= 4)
+        at += put_code(bytes + at, c->next());
+    for (; at < len; at++)
+        bytes[at] = c->next ? '.' : (uint8_t)below(256);
 }
 
 /* Whether a byte of a text is a later one of its sequence. */
@@ -125,20 +127,21 @@ static void cut_lines(struct corpus *c)
 }
 
 struct corpus corpora[CORPORA] = {
-    {.name = "ASCII", .next = next_ascii},
-    {.name = "2 % accented", .next = next_accented},
-    {.name = "2- and 3-byte words", .next = next_word_letter},
-    {.name = "emoji", .next = next_emoji},
-    {.name = "random bytes"},
-    {.name = "line log", .next = next_of_log},
+    [ASCII] = {.name = "ASCII", .next = next_ascii},
+    [ACCENTED] = {.name = "2 % accented", .next = next_accented},
+    [WORDS] = {.name = "2- and 3-byte words", .next = next_word_letter},
+    [EMOJI] = {.name = "emoji", .next = next_emoji},
+    [RANDOM] = {.name = "random bytes"},
+    [LINE_LOG] = {.name = "line log", .next = next_of_log},
 };
 
 void make_corpora(void)
 {
     for (struct corpus *c = corpora; c < corpora + CORPORA; c++) {
         c->whole.bytes = new_memory(WHOLE);
+        c->whole.len = WHOLE;
         c->whole.codes = new_memory(WHOLE * sizeof *c->whole.codes);
-        fill(&c->whole, c->next);
+        fill(c, c->whole.bytes, WHOLE);
         cut_lines(c);
     }
 }

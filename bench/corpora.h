@@ -5,7 +5,8 @@
 #include <stddef.h>
 #include <stdint.h>
 
-enum { CORPORA = 6, WHOLE = 1048576, LINES = 8192, SHORTEST = 5, LONGEST = 24 };
+enum { ASCII, ACCENTED, WORDS, EMOJI, RANDOM, LINE_LOG, CORPORA };
+enum { WHOLE = 1048576, LINES = 8192, SHORTEST = 5, LONGEST = 24 };
 
 /* Bytes, and room for as many codes. */
 struct text {
@@ -27,6 +28,12 @@ extern struct corpus corpora[CORPORA];
 
 /* Makes the bytes of all; the codes are left to be read from them. */
 void make_corpora(void);
+
+/* So many more bytes of a corpus. */
+void fill(const struct corpus *c, uint8_t *bytes, size_t len);
+
+/* The same numbers in every run. */
+uint32_t below(uint32_t n);
 
 /* Memory that has been touched. */
 void *new_memory(size_t size);

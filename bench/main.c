@@ -3,13 +3,12 @@
  *
  * usage: bench ROUNDS
  */
-#define _POSIX_C_SOURCE 200809L
+#include "clock.h"
 #include "table.h"
 
 #include <stdio.h>
 #include <stdlib.h>
 #include <string.h>
-#include <time.h>
 
 static const struct contender *readers[MOST] = {
     &entry_reader, &direct_reader, &mbsnrtowcs_reader, &mbrtoc32_reader, &iconv_reader,
@@ -95,14 +94,6 @@ static void prepare(const struct table *t, const struct corpus *c, const struct 
             exit(1);
         }
     }
-}
-
-static double thread_time(void)
-{
-    struct timespec now;
-
-    clock_gettime(CLOCK_THREAD_CPUTIME_ID, &now);
-    return 1e9 * (double)now.tv_sec + (double)now.tv_nsec;
 }
 
 static void measure(const struct table *t, const struct corpus *c, const struct contender *one, struct job *job)

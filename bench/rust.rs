@@ -42,6 +42,11 @@ fn write(codes: &[u32], bytes: &mut [u8]) -> usize {
     made
 }
 
+/// The place of char k; the length if there is none.
+fn place_of(text: &str, k: usize) -> usize {
+    text.char_indices().nth(k).map_or(text.len(), |(place, _)| place)
+}
+
 // For C: each pointer is good for its length, and the buffers do not overlap.
 
 #[no_mangle]
@@ -52,4 +57,10 @@ pub unsafe extern "C" fn rust_read(src: *const u8, len: usize, codes: *mut u32, 
 #[no_mangle]
 pub unsafe extern "C" fn rust_write(codes: *const u32, len: usize, dst: *mut u8, room: usize) -> usize {
     write(slice::from_raw_parts(codes, len), slice::from_raw_parts_mut(dst, room))
+}
+
+/// The bytes have to be well-formed.
+#[no_mangle]
+pub unsafe extern "C" fn rust_place(src: *const u8, len: usize, k: usize) -> usize {
+    place_of(str::from_utf8_unchecked(slice::from_raw_parts(src, len)), k)
 }
