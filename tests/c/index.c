@@ -109,6 +109,7 @@ void test_index(void)
     test_find_reach();
     test_update_reach();
     test_update_packets();
+    test_update_last();
     test_update_fewer();
     test_update_stand();
     test_update_refusals();

@@ -49,6 +49,7 @@ void test_cover_reach(void);
 void test_find_reach(void);
 void test_update_reach(void);
 void test_update_packets(void);
+void test_update_last(void);
 void test_update_fewer(void);
 void test_update_stand(void);
 void test_update_refusals(void);

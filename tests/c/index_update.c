@@ -75,6 +75,37 @@ void test_update_packets(void)
     }
 }
 
+/* The last records alone, two or more of them, give the last records of a fresh index. */
+static void append_to_last(size_t n, size_t cut)
+{
+    static uint8_t fresh[MOST_ROOM];
+    size_t index_len = utf8b_index_room(n), records, all;
+    struct index_outcome o = try_build(text, n, scrap, index_len);
+
+    all = o.number;
+    memcpy(fresh, o.index, index_len);
+    memcpy(index, scrap, index_len);
+    records = build_index(cut, index_len);
+    for (size_t i = 0; i + 1 < records; i++) {
+        o = try_update(text, n, cut, records - i, index + RECORD * i, index_len - RECORD * i);
+        check_that(i + o.number == all && memcmp(o.index, fresh + RECORD * i, RECORD * o.number) == 0,
+                   "the last records of a fresh index");
+    }
+}
+
+void test_update_last(void)
+{
+    size_t most = small ? 140 : MOST_LOG;
+
+    check_begin("the last records alone");
+    for (size_t kind = 0; kind < KINDS; kind++)
+        for (size_t n = 66; n < most; n += 1 + below(small ? 60 : 9)) {
+            fill_log(text, n, kind);
+            append_to_last(n, n - below(7));
+            append_to_last(n, below(n + 1));
+        }
+}
+
 /* A sequence cut off at the end is as many codes as bytes; with its rest it is one, and a record may fall away. */
 void test_update_fewer(void)
 {

@@ -2,21 +2,21 @@
 use mathlib.Core.Path.{_≡_, refl, sym, ap, _∙_}
 use mathlib.Core.Bool.{Bool, true, false}
 use mathlib.Core.List.{List, [], _∷_, _++_}
-use Prim.Native.Nat.{ℕ, zero, suc, _+_, _≤_, _<_}
+use Prim.Native.Nat.{ℕ, zero, suc, _+_, _*_, _≤_, _<_}
 use native.Mathlib.Omega.{arith}
 use lib.Dec.{ltb}
 use lib.ListN.{length, take, drop, length-drop, length-append}
-use lib.Seq.{drop-append-le}
+use lib.Seq.{drop-append-le, take-all}
 use borrow.Author.Tests.{ltb-true, ltb-false}
 use Rattle.form.specs.Table.{plain}
 use Rattle.form.specs.Text.{items}
 use Rattle.form.proofs.Tests.{Regular}
 use Rattle.form.proofs.Utf8.{plain-regular, plain-scans}
 use Rattle.bounds.specs.Cover.{place}
-use Rattle.bounds.proofs.Bounds.{place-stays}
+use Rattle.bounds.proofs.Bounds.{items-from, items-few, place-stays}
 use Rattle.log_index.specs.Index.{log-index, onward}
 use Rattle.log_index.specs.Update.{standing, resumed, updated}
-use Rattle.log_index.proofs.Starts.{jump, onward-some, onward-none}
+use Rattle.log_index.proofs.Starts.{jump, onward-some, onward-none, index-from, ceil}
 use Rattle.log_index.proofs.Standing.{stands, falls}
 
 -- 64 items that end more than three bytes before the end of s are the same in a longer log
@@ -71,3 +71,21 @@ updated-fresh s t (suc j) = go (ltb 3 (length s)) refl
         by : (b : Bool) → ltb 0 (length s) ≡ b → resumed (s ++ t) (standing (length s) (take (suc j) (onward s 0))) ≡ onward (s ++ t) 0
         by true x = rw (onward-some s 0 (ltb-true 0 (length s) x), falls (length s) 0 (take j (onward s (0 + jump s 0))) (ltb-false 3 (length s) e)) refl
         by false x = rw (onward-none s 0 (ltb-false 0 (length s) x)) refl
+
+-- the records from number i on are enough, if the first of them stands
+pub updated-tail : (s t : List ℕ) (i : ℕ) → place (i * 64) (items plain 0 s) + 3 < length s
+    → updated (s ++ t) (length s) (drop i (log-index s)) ≡ drop i (log-index (s ++ t))
+unfolding updated
+updated-tail s t i h =
+    let p = place (i * 64) (items plain 0 s) in
+    let n = length (onward s p) in
+    let a : drop i (log-index s) ≡ take (suc n) (onward s p) = index-from s i ∙ sym (take-all (suc n) (onward s p) (omega arith)) in
+    let b : place (i * 64) (items plain 0 (s ++ t)) ≡ p = place-stays plain 4 plain-scans (plain-regular .is-open) (omega arith) (i * 64) s t (omega arith) in
+    ap (λ (rs : List ℕ). resumed (s ++ t) (standing (length s) rs)) a ∙ stand-from n s t p h ∙ sym (index-from (s ++ t) i ∙ ap (onward (s ++ t)) b)
+
+-- as does any but the last
+pub but-last-stands : (s : List ℕ) (i : ℕ) → suc i < length (log-index s) → place (i * 64) (items plain 0 s) + 3 < length s
+but-last-stands s i h =
+    let p = place (i * 64) (items plain 0 s) in
+    let e = ap length (items-from plain (plain-regular .is-open) (i * 64) s) in
+    omega (arith, e, ceil s, length-drop (i * 64) (items plain 0 s), items-few plain 0 (drop p s), length-drop p s)

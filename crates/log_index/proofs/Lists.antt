@@ -1,11 +1,12 @@
 -- Elements by number, and every 64th of them. Assumes nothing.
-use mathlib.Core.Path.{_≡_, refl, ap, _∙_}
+use mathlib.Core.Path.{_≡_, refl, sym, ap, _∙_}
 use mathlib.Core.Logic.{_↔_}
 use mathlib.Core.Option.{Option, none, some}
 use mathlib.Core.List.{List, [], _∷_}
 use Prim.Native.Nat.{ℕ, zero, suc, _+_, _-_, _*_, _/_, _≤_, _<_}
 use native.Mathlib.Omega.{arith}
 use lib.ListN.{length, drop, getElem?}
+use lib.Seq.{drop-nil}
 use Rattle.form.specs.Text.{All}
 use Rattle.log_index.specs.Index.{every}
 
@@ -36,10 +37,21 @@ every-skip zero l = refl
 every-skip (suc k) [] = refl
 every-skip (suc k) (p ∷ l) = every-skip k l
 
+pub every-drop : (l : List ℕ) (k j : ℕ) → drop j (every k l) ≡ every 0 (drop (k + j * 64) l)
+every-drop [] k j = drop-nil j ∙ sym (ap (every 0) (drop-nil (k + j * 64)))
+every-drop (p ∷ l) zero zero = refl
+every-drop (p ∷ l) zero (suc j) = every-drop l 63 j ∙ ap (λ (n : ℕ). every 0 (drop n (p ∷ l))) (let z : suc (63 + j * 64) ≡ 0 + suc j * 64 = omega arith in z)
+every-drop (p ∷ l) (suc k) j = every-drop l k j ∙ ap (λ (n : ℕ). every 0 (drop n (p ∷ l))) (let z : suc (k + j * 64) ≡ suc k + j * 64 = omega arith in z)
+
 pub every-length : (k : ℕ) (l : List ℕ) → k ≤ 63 → length (every k l) ≡ (length l + (63 - k)) / 64
 every-length k [] h = omega arith
 every-length zero (p ∷ l) h = omega (arith, every-length 63 l (omega arith))
 every-length (suc k) (p ∷ l) h = omega (arith, every-length k l (omega arith))
+
+pub every-few : (k : ℕ) (l : List ℕ) → length (every k l) ≤ (length l + 63) / 64
+every-few k [] = omega arith
+every-few zero (p ∷ l) = omega (arith, every-length 63 l (omega arith))
+every-few (suc k) (p ∷ l) = omega (arith, every-few k l)
 
 pub every-all : (P : ℕ → Type 0) (k : ℕ) (l : List ℕ) → All P l → All P (every k l)
 every-all P k [] h = tt

@@ -2,7 +2,7 @@
 use mathlib.Core.Path.{_≡_, refl, sym, ap, _∙_}
 use mathlib.Core.Option.{none, some}
 use mathlib.Core.List.{List, [], _∷_}
-use Prim.Native.Nat.{ℕ, zero, suc, _+_, _-_, _/_, _≤_, _<_}
+use Prim.Native.Nat.{ℕ, zero, suc, _+_, _-_, _*_, _/_, _≤_, _<_}
 use native.Mathlib.Omega.{arith}
 use lib.ListN.{length, drop, getElem?, length-drop, drop-of-length-le}
 use lib.Seq.{drop-drop}
@@ -12,9 +12,9 @@ use Rattle.form.specs.Text.{Item, item, span, more, items, places, All}
 use Rattle.form.proofs.Tests.{Regular}
 use Rattle.form.proofs.Utf8.{plain-regular}
 use Rattle.bounds.specs.Cover.{place}
-use Rattle.bounds.proofs.Bounds.{items-from, places-from, places-inside, places-length}
+use Rattle.bounds.proofs.Bounds.{items-from, places-from, places-inside, places-length, items-few}
 use Rattle.log_index.specs.Index.{starts, every, onward, log-index}
-use Rattle.log_index.proofs.Lists.{every-skip, every-length, every-all}
+use Rattle.log_index.proofs.Lists.{every-skip, every-drop, every-length, every-all}
 
 pub starts-none : (s : List ℕ) (p : ℕ) → length s ≤ p → starts s p ≡ []
 starts-none s p h = ap (λ (u : List ℕ). places p (items plain 0 u)) (drop-of-length-le s {i = p} h)
@@ -36,6 +36,9 @@ starts-from s p j =
 pub starts-count : (s : List ℕ) → length (starts s 0) ≡ length (items plain 0 s)
 starts-count s = places-length 0 (items plain 0 s)
 
+pub starts-few : (s : List ℕ) (p : ℕ) → length (starts s p) ≤ length s - p
+starts-few s p = omega (arith, places-length p (items plain 0 (drop p s)), items-few plain 0 (drop p s), length-drop p s)
+
 -- ---- the records
 
 -- the place of the 64th item from p on
@@ -50,6 +53,14 @@ pub onward-some : (s : List ℕ) (p : ℕ) → p < length s → onward s p ≡ p
 onward-some s p h =
     ap (every 0) (starts-some s p h)
     ∙ ap (λ (l : List ℕ). p ∷ l) (every-skip 63 (drop 1 (starts s p)) ∙ ap (every 0) (drop-drop 63 1 (starts s p) ∙ starts-from s p 64))
+
+-- the records from number i on
+pub index-from : (s : List ℕ) (i : ℕ) → drop i (log-index s) ≡ onward s (place (i * 64) (items plain 0 s))
+unfolding log-index
+index-from s i =
+    let a : 0 + i * 64 ≡ i * 64 = omega arith in
+    let b : 0 + place (i * 64) (items plain 0 s) ≡ place (i * 64) (items plain 0 s) = omega arith in
+    every-drop (starts s 0) 0 i ∙ ap (λ (n : ℕ). every 0 (drop n (starts s 0))) a ∙ ap (every 0) (starts-from s 0 (i * 64)) ∙ ap (onward s) b
 
 -- one for every 64 codes, begun
 pub ceil : (s : List ℕ) → length (log-index s) ≡ (length (items plain 0 s) + 63) / 64

@@ -47,14 +47,17 @@ module _ (s : List ℕ) (from k : ℕ) (out₀ out : List ℕ) (at left n : ℕ)
       }
 
   -- those that were written are all that there is room for
-  laid-all : take (length out₀ / 8) (every k (starts s from)) ≡ K .done → out ≡ over (laid-in 8 (take (length out₀ / 8) (every k (starts s from)))) out₀
-  laid-all e = K .filled .front ∙ ap (λ (l : List ℕ). over (laid-in 8 l) out₀) (sym e)
+  abbrev Lays : Type 0
+  Lays = let l = take (length out₀ / 8) (every k (starts s from)) in (n ≡ length l) × (out ≡ over (laid-in 8 l) out₀)
 
-  pub laid-end : length s ≤ at → out ≡ over (laid-in 8 (take (length out₀ / 8) (every k (starts s from)))) out₀
+  laid-all : take (length out₀ / 8) (every k (starts s from)) ≡ K .done → Lays
+  laid-all e = (sym (ap length e ∙ K .so-far), K .filled .front ∙ ap (λ (l : List ℕ). over (laid-in 8 l) out₀) (sym e))
+
+  pub laid-end : length s ≤ at → Lays
   laid-end h =
       laid-all (ap (take (length out₀ / 8)) (reached-end s from k (K .done) at left (K .reached) h) ∙ take-all (length out₀ / 8) (K .done) (omega (arith, K .filled .fits, width, K .so-far)))
 
-  pub laid-full : length out / 8 ≤ n → out ≡ over (laid-in 8 (take (length out₀ / 8) (every k (starts s from)))) out₀
+  pub laid-full : length out / 8 ≤ n → Lays
   laid-full h =
       let z : length (K .done) ≡ length out₀ / 8 = omega (arith, K .filled .fits, width, K .so-far, K .same) in
       laid-all (ap (take (length out₀ / 8)) (K .reached .rest) ∙ take-at (K .done) (every left (starts s at)) (length out₀ / 8) z)

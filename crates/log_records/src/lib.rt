@@ -1,11 +1,14 @@
 // The records of a log from a place on: how many, and their bytes.
 ghost use mathlib.Core.Path.{_≡_};
 ghost use Prim.Native.Nat.{_/_};
+ghost use lib.Dec.{leb};
 ghost use lib.ListN.{length, take};
 ghost use Rattle.numbers.specs.Number.{laid-in, over};
 ghost use Rattle.log_index.specs.Index.{starts, every};
 
-// Between two codes that have a record stand so many that have none.
+// A record is for every so many codes, and between two that have one stand so many that have none.
+const EVERY: usize = 64;
+
 const BETWEEN: usize = 63;
 
 // The bytes of a record.
@@ -32,9 +35,23 @@ pub fn count_records(log: &[u8], from: usize, k: usize) -> usize
     count
 }
 
-// Those records at the front of a buffer, as many as it has room for.
-pub fn lay_records(log: &[u8], from: usize, k: usize, out: &mut [u8])
-    ensures { λ _. ⌜ now (out .exit) ≡ over (laid-in 8 (take (length (now (out .entry)) / 8) (every k (starts (now (log .entry)) from)))) (now (out .entry)) ⌝ }
+// Whether there are at most so many of them. Where the bytes that are left cannot have more, they are not read.
+pub fn are_few(log: &[u8], from: usize, k: usize, most: usize) -> bool
+    ensures { λ r. ⌜ r ≡ leb (length (every k (starts (now (log .entry)) from))) most ⌝ }
+{
+    if log.len() <= from {
+        return true;
+    }
+    if (log.len() - from - 1) / EVERY < most {
+        return true;
+    }
+    count_records(log, from, k) <= most
+}
+
+// Those records at the front of a buffer, as many as it has room for; answers how many.
+pub fn lay_records(log: &[u8], from: usize, k: usize, out: &mut [u8]) -> usize
+    ensures answer { λ r. ⌜ r ≡ length (take (length (now (out .entry)) / 8) (every k (starts (now (log .entry)) from))) ⌝ }
+    ensures output { λ _. ⌜ now (out .exit) ≡ over (laid-in 8 (take (length (now (out .entry)) / 8) (every k (starts (now (log .entry)) from)))) (now (out .entry)) ⌝ }
 {
     let mut at = from;
     let mut left = k;
@@ -47,7 +64,7 @@ pub fn lay_records(log: &[u8], from: usize, k: usize, out: &mut [u8])
             continue;
         }
         if out.len() / RECORD <= n {
-            return;
+            return n;
         }
         let first = n * RECORD;
         let last = first + RECORD;
@@ -56,4 +73,5 @@ pub fn lay_records(log: &[u8], from: usize, k: usize, out: &mut [u8])
         left = BETWEEN;
         at = end;
     }
+    n
 }

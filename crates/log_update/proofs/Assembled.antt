@@ -1,12 +1,15 @@
 -- What stands and what is laid behind it are the updated index. Assumes nothing.
 use mathlib.Core.Path.{_≡_, refl, sym, ap, _∙_}
+use mathlib.Core.Bool.{true, false}
 use mathlib.Core.List.{List, [], _∷_, _++_}
 use Prim.Native.Nat.{ℕ, _+_, _-_, _*_, _/_, _≤_, _<_}
 use native.Mathlib.Omega.{arith}
+use lib.Dec.{leb}
 use lib.ListN.{length, take, drop, length-append, length-drop, length-take, take-append-drop}
 use lib.Seq.{take-all, length-take-le}
+use borrow.Rule.Slice.PartAt.{part-to-end}
 use borrow.Rule.Slice.PartMut.{midOf, putMid}
-use borrow.Author.Tests.{lt-ltb, le-ltb, le-leb, lt-leb}
+use borrow.Author.Tests.{lt-ltb, le-ltb, le-leb, lt-leb, leb-true, leb-false}
 use Rattle.form.specs.Text.{All}
 use Rattle.numbers.specs.Number.{laid-in, values-in, over, Octets}
 use Rattle.numbers.proofs.Laws.{laid-length, laid-append, values-length, values-take, laid-values}
@@ -29,6 +32,10 @@ resumed-behind : (s rs : List ℕ) (n : ℕ) → All (λ p. p + 3 < n) rs → n 
 resumed-behind s [] n h l = refl
 resumed-behind s (p ∷ []) n h l = onward-next s p (omega (arith, h .0))
 resumed-behind s (p ∷ q ∷ rs) n h l = ap (λ (x : List ℕ). p ∷ x) (resumed-behind s (q ∷ rs) n (h .1) l)
+
+-- no more records are laid than there are bytes from place a on
+pub laid-few : (w E : List ℕ) (a k : ℕ) → k ≡ length (take (length (midOf a (length w - a) w) / 8) E) → k ≤ length w / 8
+laid-few w E a k e = omega (arith, e, length-take (length (midOf a (length w - a) w) / 8) E, ap length (part-to-end w a), length-drop a w)
 
 -- ---- the answers
 
@@ -87,10 +94,11 @@ module _ (log w : List ℕ) (n old : ℕ) where
       all-length : length (updated log n (values-in 8 old w)) ≡ r .count + length E
       all-length = ap length all-are ∙ length-append S E ∙ ap (λ (k : ℕ). k + length E) (sym count-is)
 
-      pub updated-full : (k : ℕ) → k ≡ length E → length w / 8 - r .count < k → Answers 1 0 w
+      pub updated-full : leb (length E) (length w / 8 - r .count) ≡ false → Answers 1 0 w
       unfolding updating fitting indexedOf
-      updated-full k l m =
-          rw (le-ltb (length log) n h, le-ltb (length w) (old * 8) g, lt-leb (length (updated log n (values-in 8 old w)) * 8) (length w) (omega (arith, all-length, l, m))) (refl, refl)
+      updated-full m =
+          rw (le-ltb (length log) n h, le-ltb (length w) (old * 8) g, lt-leb (length (updated log n (values-in 8 old w)) * 8) (length w) (omega (arith, all-length, leb-false (length E) (length w / 8 - r .count) m)))
+          (refl, refl)
 
       -- the records that stand are in their bytes already
       stands : Octets w → Filled w w (laid-in 8 S)
@@ -100,18 +108,19 @@ module _ (log w : List ℕ) (n old : ℕ) where
           let l : length (take (j * 8) w) ≡ j * 8 = length-take-le (j * 8) w (omega (arith, count-few)) in
           record { fits = rw t (omega (arith, count-few)); front = rw (t, l) (sym (take-append-drop (j * 8) w)) }
 
-      pub updated-all : Octets w → (k : ℕ) → k ≡ length E → k ≤ length w / 8 - r .count → (ys : List ℕ)
-          → ys ≡ over (laid-in 8 (take (length (midOf (r .count * 8) (length w - r .count * 8) w) / 8) E)) (midOf (r .count * 8) (length w - r .count * 8) w)
+      pub updated-all : Octets w → leb (length E) (length w / 8 - r .count) ≡ true → (k : ℕ) (ys : List ℕ)
+          → (let m = midOf (r .count * 8) (length w - r .count * 8) w in (k ≡ length (take (length m / 8) E)) × (ys ≡ over (laid-in 8 (take (length m / 8) E)) m))
           → Answers 0 (r .count + k) (putMid (r .count * 8) (length w - r .count * 8) w ys)
       unfolding updating fitting indexedOf
-      updated-all b k l m ys y =
+      updated-all b few k ys (l, y) =
           let j = r .count in
           let U = updated log n (values-in 8 old w) in
+          let m = leb-true (length E) (length w / 8 - j) few in
           let v : length (laid-in 8 S) ≡ j * 8 = laid-length 8 S ∙ ap (λ (i : ℕ). i * 8) (sym count-is) in
           let d : midOf (j * 8) (length w - j * 8) w ≡ drop (j * 8) w = filled-part w w (laid-in 8 S) (stands b) (j * 8) v in
-          let t : take (length (midOf (j * 8) (length w - j * 8) w) / 8) E ≡ E = take-all (length (midOf (j * 8) (length w - j * 8) w) / 8) E (omega (arith, ap length d, length-drop (j * 8) w, count-few)) in
+          let t : take (length (midOf (j * 8) (length w - j * 8) w) / 8) E ≡ E = take-all (length (midOf (j * 8) (length w - j * 8) w) / 8) E (omega (arith, m, ap length d, length-drop (j * 8) w, count-few)) in
           let u : ys ≡ over (laid-in 8 E) (midOf (j * 8) (length w - j * 8) w) = y ∙ ap (λ (x : List ℕ). over (laid-in 8 x) (midOf (j * 8) (length w - j * 8) w)) t in
-          let o = filled-more w w (laid-in 8 S) (stands b) (j * 8) v (laid-in 8 E) ys (omega (arith, laid-length 8 E, l, m)) u in
+          let o = filled-more w w (laid-in 8 S) (stands b) (j * 8) v (laid-in 8 E) ys (omega (arith, laid-length 8 E, m)) u in
           let a : laid-in 8 S ++ laid-in 8 E ≡ laid-in 8 U = sym (laid-append 8 S E) ∙ ap (laid-in 8) (sym all-are) in
-          rw (le-ltb (length log) n h, le-ltb (length w) (old * 8) g, le-leb (length U * 8) (length w) (omega (arith, all-length, l, m, count-few)))
-          (ap (λ (i : ℕ). record { number = 0; records = i }) (ap (λ (i : ℕ). j + i) l ∙ sym all-length), o .front ∙ ap (λ (x : List ℕ). over x w) a)
+          rw (le-ltb (length log) n h, le-ltb (length w) (old * 8) g, le-leb (length U * 8) (length w) (omega (arith, all-length, m, count-few)))
+          (ap (λ (i : ℕ). record { number = 0; records = i }) (ap (λ (i : ℕ). j + i) (l ∙ ap length t) ∙ sym all-length), o .front ∙ ap (λ (x : List ℕ). over x w) a)

@@ -86,18 +86,17 @@ pub fn update(log: &[u8], was: usize, index: &mut [u8], old: usize) -> Indexed
     }
     let r = resume_of(index, old, was);
     let skip = skip_of(r.count);
-    let n = log_records::count_records(log, r.place, skip);
-    if room - r.count < n {
+    if log_records::are_few(log, r.place, skip, room - r.count) {
+        let first = r.count * RECORD;
+        let n = log_records::lay_records(log, r.place, skip, &mut index[first..]);
         return Indexed {
-            number: 1,
-            records: 0,
+            number: 0,
+            records: r.count + n,
         };
     }
-    let first = r.count * RECORD;
-    log_records::lay_records(log, r.place, skip, &mut index[first..]);
     Indexed {
-        number: 0,
-        records: r.count + n,
+        number: 1,
+        records: 0,
     }
 }
 
