@@ -17,7 +17,7 @@ use Rattle.form.proofs.Tests.{Regular}
 use Rattle.form.proofs.Scan.{scan-well}
 use Rattle.form.proofs.Laws.{Leads}
 use Rattle.form.proofs.Items.{span-more, span-within}
-use Rattle.bounds.specs.Cover.{place, Cover, none, covers, covering, shift}
+use Rattle.bounds.specs.Cover.{place, none, covers, covering, shift}
 
 -- ---- any items
 

@@ -2,7 +2,7 @@
 use mathlib.Core.Path.{_≡_, refl, sym, ap, _∙_}
 use mathlib.Core.Logic.{⊎-elim}
 use mathlib.Core.Bool.{Bool, true, false}
-use mathlib.Core.List.{List, [], _∷_, _++_}
+use mathlib.Core.List.{List, [], _∷_}
 use Prim.Native.Nat.{ℕ, zero, suc, _+_, _-_, _≤_, _<_}
 use native.Mathlib.Omega.{arith}
 use lib.Dec.{ltb}
@@ -13,8 +13,7 @@ use Rattle.form.specs.Table.{Form, Codes}
 use Rattle.form.specs.Scan.{well, scan}
 use Rattle.form.specs.Text.{Item, coded, item, items}
 use Rattle.form.proofs.Scan.{scan-well}
-use Rattle.form.proofs.Laws.{Scans}
-use Rattle.bounds.specs.Cover.{Cover, covers, covering, shift, window}
+use Rattle.bounds.specs.Cover.{covers, covering, shift, window}
 use Rattle.bounds.proofs.Apart.{Apart}
 use Rattle.bounds.proofs.Bounds.{found-stays, item-front}
 use Rattle.bounds.proofs.Covers.{Covered, Bare, covered, well-covers, bare-covers}

@@ -9,11 +9,10 @@ use lib.ListN.{length, take, drop, length-drop}
 use lib.Seq.{take-all}
 use borrow.Author.Tests.{ltb-true, ltb-false}
 use Rattle.form.specs.Table.{plain}
-use Rattle.form.specs.Text.{Item, span, code, items}
+use Rattle.form.specs.Text.{code, items}
 use Rattle.bounds.specs.Cover.{Cover, none, covers, covering, shift, window}
-use Rattle.form.proofs.Laws.{Leads}
 use Rattle.form.proofs.Utf8.{plain-regular, plain-leads}
-use Rattle.bounds.proofs.Apart.{Apart, plain-apart}
+use Rattle.bounds.proofs.Apart.{plain-apart}
 use Rattle.bounds.proofs.Covers.{past-end, some-covers, covering-item}
 use Rattle.bounds.proofs.Window.{local}
 use Rattle.cover.specs.declared.Covered.{Covered}

@@ -1,5 +1,5 @@
 -- The answer of `cover`: 0, the item's start, length and code; or 15 (C-17). Assumes nothing.
-use Rattle.form.specs.Text.{Item, span, code}
+use Rattle.form.specs.Text.{span, code}
 use Rattle.bounds.specs.Cover.{Cover, none, covers}
 use Rattle.cover.specs.declared.Covered.{Covered}
 

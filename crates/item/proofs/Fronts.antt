@@ -1,15 +1,14 @@
 -- What stands at the front of a slice, as an item. Assumes nothing.
-use mathlib.Core.Path.{_≡_, refl, sym, ap, _∙_}
+use mathlib.Core.Path.{_≡_, refl, ap}
 use mathlib.Core.List.{List, [], _∷_}
-use Prim.Native.Nat.{ℕ, suc, _<_, max}
+use Prim.Native.Nat.{ℕ, suc, _<_}
 use native.Mathlib.Omega.{arith}
 use lib.ListN.{length, getD}
 use Rattle.form.specs.Table.{plain}
 use Rattle.form.specs.Scan.{Found, well, part, bad, scan}
-use Rattle.form.specs.Text.{Item, coded, stray, item}
-use Rattle.form.proofs.Laws.{Scans}
+use Rattle.form.specs.Text.{stray, item}
 use Rattle.form.proofs.Utf8.{plain-scans}
-use Rattle.form.proofs.EncodingForms.{EncodingForm, plain-form}
+use Rattle.form.proofs.EncodingForms.{plain-form}
 use Rattle.front.specs.Front.{Told, told, toldOf}
 use Rattle.front.specs.declared.Front.{Front}
 use Rattle.front.specs.declared.Front.the-variants.{Well, Partial, Bad}

@@ -1,7 +1,7 @@
 -- One item on: what every walk over the items of a slice cites. Assumes nothing.
 use mathlib.Core.Path.{_≡_, refl, sym, ap, _∙_}
 use mathlib.Core.List.{List, [], _∷_}
-use Prim.Native.Nat.{ℕ, suc, _+_, _-_, _≤_, _<_}
+use Prim.Native.Nat.{ℕ, _+_, _-_, _≤_, _<_}
 use native.Mathlib.Omega.{arith}
 use lib.ListN.{length, take, drop, length-drop}
 use lib.Seq.{drop-drop}
@@ -9,7 +9,6 @@ use borrow.Rule.Slice.PartAt.{part-to-end}
 use Rattle.form.specs.Table.{plain}
 use Rattle.form.specs.Scan.{scan}
 use Rattle.form.specs.Text.{Item, coded, stray, span, code, more, item, items, places}
-use Rattle.form.proofs.Tests.{Regular}
 use Rattle.form.proofs.Items.{items-skip, span-more, span-within}
 use Rattle.form.proofs.Utf8.{plain-regular}
 use Rattle.item.specs.declared.Leaf.{Leaf}

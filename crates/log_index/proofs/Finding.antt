@@ -2,12 +2,11 @@
 use mathlib.Core.Path.{_≡_, refl, sym, ap, _∙_}
 use mathlib.Core.Option.{Option, none, some}
 use mathlib.Core.List.{List, [], _∷_, map}
-use Prim.Native.Nat.{ℕ, zero, suc, _+_, _*_, _/_, _%_, _≤_}
+use Prim.Native.Nat.{ℕ, zero, suc, _+_, _*_, _/_, _%_}
 use native.Mathlib.Omega.{arith}
-use lib.ListN.{length, drop, getElem?}
+use lib.ListN.{drop, getElem?}
 use Rattle.form.specs.Table.{plain}
 use Rattle.form.specs.Text.{Item, span, code, items, places, read}
-use Rattle.form.proofs.Tests.{Regular}
 use Rattle.form.proofs.Utf8.{plain-regular}
 use Rattle.bounds.specs.Cover.{place}
 use Rattle.bounds.proofs.Bounds.{items-from}

@@ -2,7 +2,7 @@
 use mathlib.Core.Path.{_≡_, refl, sym, ap, _∙_}
 use mathlib.Core.Bool.{Bool, true, false}
 use mathlib.Core.List.{List, [], _∷_, _++_}
-use Prim.Native.Nat.{ℕ, zero, suc, _+_, _*_, _≤_, _<_}
+use Prim.Native.Nat.{ℕ, zero, suc, _+_, _*_, _<_}
 use native.Mathlib.Omega.{arith}
 use lib.Dec.{ltb}
 use lib.ListN.{length, take, drop, length-drop, length-append}
@@ -10,7 +10,6 @@ use lib.Seq.{drop-append-le, take-all}
 use borrow.Author.Tests.{ltb-true, ltb-false}
 use Rattle.form.specs.Table.{plain}
 use Rattle.form.specs.Text.{items}
-use Rattle.form.proofs.Tests.{Regular}
 use Rattle.form.proofs.Utf8.{plain-regular, plain-scans}
 use Rattle.bounds.specs.Cover.{place}
 use Rattle.bounds.proofs.Bounds.{items-from, items-few, place-stays}

@@ -3,7 +3,7 @@ use mathlib.Core.Path.{_≡_, refl, sym, ap, _∙_}
 use mathlib.Core.Logic.{_↔_}
 use mathlib.Core.Bool.{Bool, true, false}
 use mathlib.Core.Option.{Option, none, some}
-use mathlib.Core.List.{List, [], _∷_}
+use mathlib.Core.List.{List}
 use Prim.Native.Nat.{ℕ, _+_, _*_, _/_, _%_, _≤_}
 use native.Mathlib.Omega.{arith}
 use lib.Dec.{ltb}
@@ -13,7 +13,7 @@ use Rattle.form.specs.Table.{plain}
 use Rattle.form.specs.Text.{Item, items}
 use Rattle.form.proofs.Utf8.{plain-regular, plain-leads}
 use Rattle.bounds.specs.Cover as Cover
-use Rattle.bounds.specs.Cover.{place, covers, covering}
+use Rattle.bounds.specs.Cover.{covers, covering}
 use Rattle.bounds.proofs.Apart.{plain-apart}
 use Rattle.bounds.proofs.Covers.{covering-item, past-end, some-covers}
 use Rattle.bounds.proofs.Window.{alike}

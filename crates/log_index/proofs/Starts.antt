@@ -1,15 +1,12 @@
 -- The places of a log's codes from a place on. Assumes nothing.
-use mathlib.Core.Path.{_≡_, refl, sym, ap, _∙_}
-use mathlib.Core.Option.{none, some}
+use mathlib.Core.Path.{_≡_, refl, ap, _∙_}
 use mathlib.Core.List.{List, [], _∷_}
-use Prim.Native.Nat.{ℕ, zero, suc, _+_, _-_, _*_, _/_, _≤_, _<_}
+use Prim.Native.Nat.{ℕ, _+_, _-_, _*_, _/_, _≤_, _<_}
 use native.Mathlib.Omega.{arith}
-use lib.ListN.{length, drop, getElem?, length-drop, drop-of-length-le}
+use lib.ListN.{length, drop, length-drop, drop-of-length-le}
 use lib.Seq.{drop-drop}
 use Rattle.form.specs.Table.{plain}
-use Rattle.form.specs.Scan.{scan}
-use Rattle.form.specs.Text.{Item, item, span, more, items, places, All}
-use Rattle.form.proofs.Tests.{Regular}
+use Rattle.form.specs.Text.{items, places, All}
 use Rattle.form.proofs.Utf8.{plain-regular}
 use Rattle.bounds.specs.Cover.{place}
 use Rattle.bounds.proofs.Bounds.{items-from, places-from, places-inside, places-length, items-few}

@@ -17,7 +17,6 @@ use Rattle.numbers.proofs.Filled.{Filled, filled-part, filled-more}
 use Rattle.log_index.specs.Index.{starts, every, onward}
 use Rattle.log_index.specs.Update.{standing, resumed, updated, Indexing, fitting, updating}
 use Rattle.log_index.proofs.Starts.{starts-some}
-use Rattle.log_index.specs.Request.{StandFirst}
 use Rattle.log_index.proofs.Standing.{stand-first}
 use Rattle.log_update.specs.Resumption.{lastOf, resumeOf, skipOf}
 use Rattle.log_update.specs.Answer.{indexedOf}

@@ -1,5 +1,4 @@
 -- The answer of `build` and `update`. Assumes nothing.
-use Prim.Native.Nat.{ℕ}
 use Rattle.log_index.specs.Update.{Indexing}
 use Rattle.log_update.specs.declared.Indexed.{Indexed}
 

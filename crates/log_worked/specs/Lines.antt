@@ -9,7 +9,7 @@ use Rattle.form.specs.Text.{coded, stray, items}
 use Rattle.numbers.specs.Number.{laid-in}
 use Rattle.bounds.specs.Cover as Cover
 use Rattle.bounds.specs.Cover.{Cover, covers, covering}
-use Rattle.log_index.specs.Index.{log-index, finding, records}
+use Rattle.log_index.specs.Index.{finding, records}
 use Rattle.log_index.specs.Update.{Indexing, refused, building, updating}
 
 -- so many letters

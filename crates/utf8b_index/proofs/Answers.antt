@@ -4,8 +4,7 @@ use mathlib.Core.Option.{Option, none, some}
 use mathlib.Core.List.{List}
 use Prim.Native.Nat.{ℕ}
 use native.Mathlib.Omega.{arith}
-use borrow.Author.Tests.{eq-eqb, ne-eqb}
-use Rattle.form.specs.Text.{Item}
+use borrow.Author.Tests.{ne-eqb}
 use Rattle.bounds.specs.Cover as Cover
 use Rattle.numbers.specs.Number.{over}
 use Rattle.cover.specs.declared.Covered.{Covered}

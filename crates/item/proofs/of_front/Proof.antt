@@ -1,7 +1,6 @@
 -- Assumes nothing.
-use mathlib.Core.Path.{_≡_, refl, sym, ap, _∙_}
+use mathlib.Core.Path.{refl}
 use borrow.Author.Needs.{needs}
-use Rattle.item.specs.Leaf.{leaf, itemOf}
 use Rattle.item.proofs.of_front.Statement.{statement}
 use Rattle.item.proofs.of_front.Tie as tie
 

@@ -1,8 +1,6 @@
 -- Assumes nothing.
 use mathlib.Core.Path.{_∙_}
-use Prim.Native.Nat.{_/_}
 use native.Mathlib.Omega.{arith}
-use lib.ListN.{length}
 use borrow.Author.Needs.{needs}
 use Rattle.log_find.proofs.Records.{found-missing, found-from}
 use Rattle.log_find.proofs.find.Statement.{statement}

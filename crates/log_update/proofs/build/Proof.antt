@@ -1,6 +1,4 @@
 -- Assumes nothing.
-use mathlib.Core.Path.{_≡_}
-use native.Mathlib.Omega.{arith}
 use borrow.Author.Needs.{needs}
 use Rattle.log_index.proofs.Bytes.{updated-none}
 use Rattle.log_update.proofs.build.Statement.{statement}

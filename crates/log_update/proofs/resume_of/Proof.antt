@@ -1,9 +1,7 @@
 -- Assumes nothing.
-use mathlib.Core.Path.{_≡_, sym, _∙_}
-use mathlib.Core.Bool.{not}
-use Prim.Native.Nat.{ℕ, _-_}
+use mathlib.Core.Path.{sym, _∙_}
+use Prim.Native.Nat.{_-_}
 use native.Mathlib.Omega.{arith}
-use lib.ListN.{length}
 use borrow.Author.Needs.{needs}
 use Rattle.log_update.proofs.Resuming.{Resuming, resuming-start, resuming-on, resuming-stop, resuming-end}
 use Rattle.log_update.proofs.resume_of.Statement.{statement}
