@@ -14,7 +14,7 @@ use Rattle.form.specs.Text.{items, All}
 use Rattle.numbers.specs.Number.{laid-in, values-in, over, Below}
 use Rattle.numbers.proofs.Laws.{laid-length, values-laid, over-length}
 use Rattle.log_index.specs.Index.{starts, log-index, finding, records}
-use Rattle.log_index.specs.Update.{updated, Indexing, refused, fitting, building, updating}
+use Rattle.log_index.specs.Update.{updated, Indexing, fitting, building, updating}
 use Rattle.bounds.proofs.Bounds.{items-few}
 use Rattle.log_index.proofs.Starts.{ceil, log-index-inside}
 use Rattle.log_index.proofs.Finding.{found-true}
@@ -44,7 +44,7 @@ module _ (s : List ℕ) (room : ℕ) where
   unfolding building fitting
   built-all h = rw (le-leb (length (log-index s) * 8) room h) refl
 
-  pub built-none : room < length (log-index s) * 8 → building s room ≡ refused 1
+  pub built-none : room < length (log-index s) * 8 → building s room ≡ record { number = 1; records = 0; bytes = [] }
   unfolding building fitting
   built-none h = rw (lt-leb (length (log-index s) * 8) room h) refl
 
@@ -76,12 +76,12 @@ found-built s w k h e =
 -- ---- updating
 
 -- an old length past the log's, or more old records than there is room for, is 15, whatever the room for the new ones
-pub updating-outside : (log : List ℕ) (n : ℕ) (w : List ℕ) (old : ℕ) → (length log < n) ⊎ (length w < old * 8) → updating log n w old ≡ refused 15
+pub updating-outside : (log : List ℕ) (n : ℕ) (w : List ℕ) (old : ℕ) → (length log < n) ⊎ (length w < old * 8) → updating log n w old ≡ record { number = 15; records = 0; bytes = [] }
 unfolding updating
 updating-outside log n w old (inl h) = rw (lt-ltb (length log) n h) refl
 updating-outside log n w old (inr h) = go (ltb (length log) n) refl
   where
-    go : (b : Bool) → ltb (length log) n ≡ b → updating log n w old ≡ refused 15
+    go : (b : Bool) → ltb (length log) n ≡ b → updating log n w old ≡ record { number = 15; records = 0; bytes = [] }
     go true e = rw e refl
     go false e = rw (e, lt-ltb (length w) (old * 8) h) refl
 

@@ -33,7 +33,7 @@ found-true s k =
     let whole : 0 + k / 64 * 64 + k % 64 ≡ k = omega arith in
     ap (λ (a : Option ℕ). reached s a (k % 64)) (every-at (starts s 0) 0 (k / 64)) ∙ jumped s (0 + k / 64 * 64) (k % 64) (getElem? (starts s 0) (0 + k / 64 * 64)) refl ∙ ap (getElem? (starts s 0)) whole
 
-map-drop : (j : ℕ) (l : List Item) → map code (drop j l) ≡ drop j (map code l)
+pub map-drop : (j : ℕ) (l : List Item) → map code (drop j l) ≡ drop j (map code l)
 map-drop zero l = refl
 map-drop (suc j) [] = refl
 map-drop (suc j) (i ∷ l) = map-drop j l

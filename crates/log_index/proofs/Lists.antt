@@ -10,10 +10,14 @@ use lib.Seq.{drop-nil}
 use Rattle.form.specs.Text.{All}
 use Rattle.log_index.specs.Index.{every}
 
-pub elem-drop : (l : List ℕ) (m j : ℕ) → getElem? (drop m l) j ≡ getElem? l (m + j)
+pub elem-drop : {A : Type 0} (l : List A) (m j : ℕ) → getElem? (drop m l) j ≡ getElem? l (m + j)
 elem-drop l zero j = ap (getElem? l) (let z : j ≡ 0 + j = omega arith in z)
 elem-drop [] (suc m) j = refl
 elem-drop (p ∷ l) (suc m) j = elem-drop l m j ∙ ap (getElem? (p ∷ l)) (let z : suc (m + j) ≡ suc m + j = omega arith in z)
+
+-- the first of what is left
+pub elem-first : {A : Type 0} (l : List A) (m : ℕ) (x : A) (t : List A) → drop m l ≡ x ∷ t → getElem? l m ≡ some x
+elem-first {A = A} l m x t e = ap (getElem? l) (let z : m ≡ m + 0 = omega arith in z) ∙ sym (elem-drop l m 0) ∙ ap (λ (k : List A). getElem? k 0) e
 
 some-none : {A : Type 0} (p : ℕ) → _≡_ {A = Option ℕ} (some p) none → A
 some-none p e = let z : _≡_ {A = ℕ} 0 1 = cc in absurd (omega arith)
