@@ -169,8 +169,9 @@ uint32_t utf8b_index_cover(const uint8_t *log, size_t log_len,
  * before the first whose place + 3 reaches old_len stand, and the walk goes on from the
  * last of these.
  *
- * Every old record is read.  In a long index the last two are enough: with i = old_records - 2,
- * hand on index + 8 * i, index_len - 8 * i and 2 old records, and *records counts from i on.
+ * Every old record is read.  In a long index the last two are enough: where i is
+ * old_records - 2, hand on index + 8 * i, index_len - 8 * i and 2, and *records counts
+ * from record i on.
  *
  * Answers UTF8B_DONE; UTF8B_OUTSIDE where old_len is more than log_len, or old_records
  * more than index has room for; or else UTF8B_NO_ROOM where the records do not fit.
