@@ -32,7 +32,7 @@ resumed-behind s [] n h l = refl
 resumed-behind s (p ∷ []) n h l = onward-next s p (omega (arith, h .0))
 resumed-behind s (p ∷ q ∷ rs) n h l = ap (λ (x : List ℕ). p ∷ x) (resumed-behind s (q ∷ rs) n (h .1) l)
 
--- no more records are laid than there are bytes from place a on
+-- no more records are laid behind place a than the whole buffer has room for
 pub laid-few : (w E : List ℕ) (a k : ℕ) → k ≡ length (take (length (midOf a (length w - a) w) / 8) E) → k ≤ length w / 8
 laid-few w E a k e = omega (arith, e, length-take (length (midOf a (length w - a) w) / 8) E, ap length (part-to-end w a), length-drop a w)
 
