@@ -2,13 +2,16 @@ PREFIX ?= /usr/local
 c_flags := -std=c99 -O2 -Wall -Wextra -pedantic
 
 # rt staticlib exports only what the crate it is given marks, so each crate with entries for C is named here.
-entries := utf8b utf8b_cesu8 utf8b_index
+entries := utf8b utf8b_cesu8 utf8b_reason utf8b_index
 archive := build/libutf8b.a
+program := build/codes
 # The directories are named too: a file that is taken away changes nothing else.
 sources := Makefile crates.txt $(shell find crates/*/src crates/*/specs crates/*/proofs)
 
-pages := $(wildcard man/*.3)
-installed := include/utf8b.h lib/libutf8b.a lib/pkgconfig/utf8b.pc $(pages:man/%=share/man/man3/%)
+pages_1 := $(wildcard man/*.1)
+pages_3 := $(wildcard man/*.3)
+installed := bin/codes include/utf8b.h lib/libutf8b.a lib/pkgconfig/utf8b.pc \
+	$(pages_1:man/%=share/man/man1/%) $(pages_3:man/%=share/man/man3/%)
 
 # A path goes to the shell as it was given: make would take a '$' in it for a variable, and a space for an end.
 placed install uninstall: export given_prefix := $(value PREFIX)
@@ -26,8 +29,8 @@ case $$prefix in *['$$()']*) refuse 'PREFIX has $$, ( or ), which pkg-config can
 root=$$given_destdir$$prefix
 endef
 
-.PHONY: archive run test bench install uninstall placed help
-# placed comes before the archive; rt takes the cores by itself.
+.PHONY: archive codes run test bench install uninstall placed help
+# placed comes before what is built; rt takes the cores by itself.
 .NOTPARALLEL:
 
 archive: $(archive) ## proves and builds build/libutf8b.a
@@ -38,6 +41,15 @@ $(archive): $(sources)
 	rm -rf build/join && mkdir -p build/join
 	printf '%s\n' 'CREATE build/join/libutf8b.a' $(entries:%='ADDLIB target/staticlib/lib%.a') SAVE END | $(AR) -M
 	mv build/join/libutf8b.a $@
+
+codes: $(program) ## proves and builds build/codes
+
+# Nor half of the program.
+$(program): $(sources)
+	rt check codes
+	mkdir -p build/join
+	cp target/bin/codes build/join/codes
+	mv build/join/codes $@
 
 run: $(archive) ## runs an example
 	$(CC) $(c_flags) -Iinclude examples/packets.c $(archive) -o build/packets
@@ -52,12 +64,14 @@ bench: ## times the library beside others; ROUNDS=n for another number of rounds
 placed:
 	@$(place)
 
-install: placed $(archive) ## below PREFIX, with DESTDIR before it
+install: placed $(archive) $(program) ## the library, codes and the pages, below PREFIX, with DESTDIR before it
 	@$(place); umask 022; pc=$$root/lib/pkgconfig/utf8b.pc; \
 	for file in $(installed); do mkdir -p -- "$$root/$${file%/*}"; done; \
+	install -m 755 -t "$$root/bin" -- $(program); \
 	install -m 644 -t "$$root/include" -- include/utf8b.h; \
 	install -m 644 -t "$$root/lib" -- $(archive); \
-	install -m 644 -t "$$root/share/man/man3" -- $(pages); \
+	install -m 644 -t "$$root/share/man/man1" -- $(pages_1); \
+	install -m 644 -t "$$root/share/man/man3" -- $(pages_3); \
 	{ printf 'prefix='; printf '%s\n' "$$prefix" | LC_ALL=C sed 's,[^A-Za-z0-9_./-],\\&,g'; cat utf8b.pc.in; } >"$$pc"; \
 	chmod 644 -- "$$pc"; \
 	printf 'installed below %s\n' "$$root"

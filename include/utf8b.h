@@ -1,14 +1,14 @@
 /*
- * libutf8b: UTF-8 and CESU-8 to codes and back, with every byte kept, and an index
- * into a long log.
+ * libutf8b: UTF-8 and CESU-8 to codes and back, with every byte kept; why bytes are
+ * bad; and an index into a long log.
  *
  * A code is four bytes, low byte first, on every machine.  A byte b at which no
  * well-formed sequence starts is read as the escape U+DC00 + b (U+DC80..U+DCFF),
  * and the escape is written back as that byte.
  *
  * What each call answers and leaves in its buffers is proved for every input
- * (crates/utf8b, crates/utf8b_cesu8, crates/utf8b_index).  What is trusted at this
- * boundary:
+ * (crates/utf8b, crates/utf8b_cesu8, crates/utf8b_reason, crates/utf8b_index).  What
+ * is trusted at this boundary:
  *   - each pointer is good for its length, the input for reading, the others for
  *     reading and writing, and nothing else changes them during the call;
  *   - the buffers of one call, and the numbers that it fills in, do not overlap, and
@@ -47,8 +47,20 @@ extern "C" {
 #define UTF8B_NO_ROOM 1u   /* the index would be longer than index_len */
 #define UTF8B_OUTSIDE 15u  /* a code, byte or record that is not there, or an old length past the log's */
 
+/* Reasons, which utf8b_reason answers. */
+#define UTF8B_REASON_GOOD 0u       /* none: a well-formed sequence starts there */
+#define UTF8B_REASON_LONE 1u       /* 80..BF: a continuation byte with nothing to continue */
+#define UTF8B_REASON_NEVER 2u      /* C0 or C1, which begin no sequence */
+#define UTF8B_REASON_BEYOND 3u     /* F5..FF, which begin no sequence */
+#define UTF8B_REASON_TOO_LONG 4u   /* too long a form of its code: E0 before 80..9F, F0 before 80..8F */
+#define UTF8B_REASON_SURROGATE 5u  /* a surrogate, D800 to DFFF: ED before A0..BF */
+#define UTF8B_REASON_TOO_HIGH 6u   /* above 10FFFF: F4 before 90..BF */
+#define UTF8B_REASON_CUT_SHORT 7u  /* where a continuation byte was due stands a byte that is not 80..BF */
+#define UTF8B_REASON_UNFINISHED 8u /* the end of the bytes cuts a sequence off */
+#define UTF8B_REASON_END 9u        /* no byte: the place is at or past the end */
+
 #define UTF8B_REPORT 9      /* bytes in a report: a count in 8, low byte first, and a length in 1 */
-#define UTF8B_LIMIT 1048576 /* most bytes in an input or output; the calls on an index have no limit */
+#define UTF8B_LIMIT 1048576 /* most bytes in an input or output; utf8b_reason and the calls on an index have no limit */
 
 #define UTF8B_INDEX_EVERY 64 /* codes from one record of an index to the next */
 #define UTF8B_INDEX_RECORD 8 /* bytes in a record: the place of a code, low byte first */
@@ -120,6 +132,17 @@ int64_t utf8b_cesu8_encode(const uint8_t *codes, size_t codes_len,
                            uint8_t *report, size_t report_len);
 
 /*
+ * Why the bytes at a place of s are bad, in UTF-8 with nothing after them: one of the
+ * reasons above.  It is the reason at the first byte that leaves no well-formed sequence:
+ * E0 80 at the end is too long a form, not cut off.
+ *
+ * A place is any byte, and is read afresh: inside a good sequence there is a continuation
+ * byte with nothing to continue.  A caller who wants each bad stretch once goes on behind
+ * it; for the reasons 1 to 6 that is one byte, for 7 and 8 one to three.
+ */
+uint32_t utf8b_reason(const uint8_t *s, size_t s_len, size_t place);
+
+/*
  * An index into a log: a record for every 64th code, 0, 64, 128, .., with the place of
  * the byte where it starts.  The codes are those that utf8b_decode reads with UTF8B_LAST
  * alone, so each bad byte is a code of its own.
@@ -181,7 +204,7 @@ uint32_t utf8b_index_update(const uint8_t *log, size_t log_len,
                             uint8_t *index, size_t index_len,
                             size_t *records);
 
-/* What every caller needs of reports, codes and records.  These are C, tested and not proved. */
+/* What every caller needs of reports, codes, reasons and records.  These are C, tested and not proved. */
 
 /* The number in 8 bytes, low byte first. */
 static inline uint64_t utf8b_number(const uint8_t *bytes)
@@ -212,6 +235,24 @@ static inline uint32_t utf8b_code(const uint8_t *codes, size_t i)
     const uint8_t *code = codes + 4 * i;
 
     return code[0] | (uint32_t)code[1] << 8 | (uint32_t)code[2] << 16 | (uint32_t)code[3] << 24;
+}
+
+/* A reason in words, which fit behind "bad bytes: ". */
+static inline const char *utf8b_reason_text(uint32_t reason)
+{
+    switch (reason) {
+    case UTF8B_REASON_GOOD: return "well-formed";
+    case UTF8B_REASON_LONE: return "a continuation byte with nothing to continue";
+    case UTF8B_REASON_NEVER: return "C0 and C1 begin no sequence";
+    case UTF8B_REASON_BEYOND: return "F5 to FF begin no sequence";
+    case UTF8B_REASON_TOO_LONG: return "too long a form of its code";
+    case UTF8B_REASON_SURROGATE: return "a surrogate, D800 to DFFF";
+    case UTF8B_REASON_TOO_HIGH: return "above 10FFFF, the last code";
+    case UTF8B_REASON_CUT_SHORT: return "no continuation byte follows";
+    case UTF8B_REASON_UNFINISHED: return "the end of the input cuts it off";
+    case UTF8B_REASON_END: return "at or past the end";
+    }
+    return "unknown reason";
 }
 
 /* Record i of an index, from 0: the place of code 64 * i. */

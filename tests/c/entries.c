@@ -1,5 +1,6 @@
 /*
- * The entries of the archive, tested: those of an index, of UTF-8 and of CESU-8.  With the argument "small", a short run.
+ * The entries of the archive, tested: those of an index, of reasons, of UTF-8 and of CESU-8.  With the argument "small",
+ * a short run.
  */
 #include "tests.h"
 
@@ -69,8 +70,9 @@ int main(int argc, char **argv)
 {
     small = argc > 1 && strcmp(argv[1], "small") == 0;
     test_header();
-    /* Before cesu8 is set: an index is of UTF-8. */
+    /* Before cesu8 is set: an index and a reason are of UTF-8. */
     test_index();
+    test_reason();
     for (cesu8 = 0; cesu8 < 2; cesu8++)
         test_entries();
     return check_end();

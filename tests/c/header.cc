@@ -1,4 +1,4 @@
-// The header from C++: `40′` is read and written back, and found in an index.
+// The header from C++: `40′` is read and written back, asked why it would be bad, and found in an index.
 #include "utf8b.h"
 
 #include <cstdio>
@@ -60,7 +60,13 @@ int main()
     same(3, (long long)length, "its item's length");
     same(0x2032, code, "its item's code");
     same(16, (long long)utf8b_index_room(65), "room for an index");
+
+    same(UTF8B_REASON_GOOD, utf8b_reason(line, sizeof line, 2), "a good place");
+    same(UTF8B_REASON_LONE, utf8b_reason(line, sizeof line, 3), "a place inside a sequence");
+    same(UTF8B_REASON_UNFINISHED, utf8b_reason(line, 4, 2), "a sequence cut off");
+    same(UTF8B_REASON_END, utf8b_reason(line, sizeof line, sizeof line), "the end");
+    same(0, std::strcmp(utf8b_reason_text(UTF8B_REASON_UNFINISHED), "the end of the input cuts it off"), "its words");
     if (differences == 0)
-        std::puts("33 answers compared, 0 differences");
+        std::puts("38 answers compared, 0 differences");
     return differences != 0;
 }

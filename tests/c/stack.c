@@ -24,6 +24,7 @@ static void on_own_stack(int signal)
     memset(stack, PAINT, free_below);
     enter(DECODE, in, sizeof in, out, sizeof out, 1, report, sizeof report);
     enter(ENCODE, in, sizeof in, out, sizeof out, 1, report, sizeof report);
+    utf8b_reason(in, sizeof in, 999);
     utf8b_index_build(in, sizeof in, out, sizeof out, &number);
     utf8b_index_update(in, sizeof in, sizeof in - 99, number, out, sizeof out, &number);
     utf8b_index_find(in, sizeof in, out, sizeof out, 999, &number);

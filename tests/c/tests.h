@@ -41,5 +41,6 @@ void test_byte_places(void);
 void test_pieces(void);
 void test_stack(void);
 void test_index(void);
+void test_reason(void);
 
 #endif

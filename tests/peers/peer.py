@@ -1,4 +1,4 @@
-"""What the comparisons with CPython share: cpython.py for UTF-8, cesu8.py for CESU-8, index.py for an index."""
+"""What the comparisons with CPython share: cpython.py for UTF-8, cesu8.py for CESU-8, reason.py for reasons, index.py for an index."""
 
 import codecs
 import ctypes

@@ -2,17 +2,15 @@
 //
 //     U+0034 U+0030 U+2032
 //
-// A byte that is part of no well-formed sequence is shown as the byte, <E2>. All input is read before anything is written, so that a
-// refusal leaves standard output empty.
+// A byte that is part of no well-formed sequence is shown as the byte, <E2>, and with --why each stretch of them has a line that says why. All
+// input is read before anything is written, so that a refusal leaves standard output empty.
 use libc::STDERR_FILENO;
 use libc::STDIN_FILENO;
 use libc::STDOUT_FILENO;
 ghost use mathlib.Core.Path.{_≡_};
 ghost use Prim.Native.Nat.{_<_, _≤_};
 ghost use lib.ListN.{length};
-ghost use Rattle.io.specs.Counts.{Counts};
 
-const LINE_FEED: u32 = 0x0A;
 // In place of a number of bytes that wait in the output's buffer: a write failed, so that no more is written.
 const STOPPED: usize = 0xFFFFFFFFFFFFFFFF;
 
@@ -43,13 +41,13 @@ fn fail(name: &[u8]) {
 
 fn misused(name: &[u8], why: &[u8]) {
     refuse(name, why);
-    say(b"usage: codes [FILE]\n       codes --help\n");
+    say(b"usage: codes [--why] [FILE]\n       codes --help\n");
 }
 
 fn help() {
     io::write_all(
         STDOUT_FILENO,
-        b"usage: codes [FILE]\n       codes --help\n\nShows the codes of FILE, or of standard input, one line for each line:\n\n    U+0034 U+0030 U+2032\n\nA byte that is part of no well-formed UTF-8 sequence is shown as the byte, <E2>.\nThe line feed U+000A ends a line and is not shown. The input has at most 1048576\nbytes.\n\nThe exit status is always 0. Where the input is refused, standard output stays\nempty, and standard error says why.\n",
+        b"usage: codes [--why] [FILE]\n       codes --help\n\nShows the codes of FILE, or of standard input, one line for each line:\n\n    U+0034 U+0030 U+2032\n\nA byte that is part of no well-formed UTF-8 sequence is shown as the byte, <E2>.\nThe line feed U+000A ends a line and is not shown. The input has at most 1048576\nbytes.\n\nWith --why each bad stretch of a line has a line of its own below it, with its\nplace in the input, from 0, its bytes and the reason:\n\n    U+0034 U+0030 <E2> <80>\n      byte 2, <E2> <80>: the end of the input cuts it off\n\nThe exit status is always 0. Where the input is refused, standard output stays\nempty, and standard error says why.\n",
     );
 }
 
@@ -92,6 +90,14 @@ fn put_upper(n: usize, digits: &[u8], out: &mut [u8]) -> usize {
     at
 }
 
+fn put_words(n: usize, words: &[u8], out: &mut [u8]) -> usize {
+    let mut at = n;
+    for i in 0..words.len() {
+        at = put(at, words[i], out);
+    }
+    at
+}
+
 fn put_hex(n: usize, value: u32, width: usize, out: &mut [u8]) -> usize {
     let mut digits = [0u8; 16];
     let k = io::hex(value as u64, width, &mut digits);
@@ -108,90 +114,102 @@ fn put_code(n: usize, code: u32, out: &mut [u8]) -> usize {
     put_hex(at, code, 4, out)
 }
 
-// The code, and between it and the one before it in its line a space.
-fn put_next(n: usize, before: u32, code: u32, out: &mut [u8]) -> usize {
-    if code == LINE_FEED {
-        return put(n, b'\n', out);
+// Where the walk goes on. It never stands still, so that it ends.
+fn after(at: usize, n: usize, end: usize) -> usize
+    requires { ⌜ at < end ⌝ }
+    ensures { λ r. ⌜ (at < r) × (r ≤ end) ⌝ }
+{
+    if n == 0 {
+        return end;
     }
-    if before == LINE_FEED {
+    if end - at < n {
+        return end;
+    }
+    at + n
+}
+
+fn put_next(n: usize, first: bool, code: u32, out: &mut [u8]) -> usize {
+    if first {
         return put_code(n, code, out);
     }
     put_code(put(n, b' ', out), code, out)
 }
 
-fn put_all(n: usize, before: u32, codes: &[u32], out: &mut [u8]) -> usize {
-    let mut at = n;
-    let mut last = before;
-    for i in 0..codes.len() {
-        at = put_next(at, last, codes[i], out);
-        last = codes[i];
-    }
-    at
-}
-
-fn last_of(codes: &[u32], before: u32) -> u32 {
-    if codes.len() == 0 {
-        return before;
-    }
-    codes[codes.len() - 1]
-}
-
-fn least(n: usize, codes: &[u32]) -> usize
-    ensures { λ r. ⌜ Counts r (now (codes .entry)) ⌝ }
+// The codes of the bytes of s from `from` up to `end`, with a space between two.
+fn put_codes(n: usize, s: &[u8], from: usize, end: usize, out: &mut [u8]) -> usize
+    requires { do ⌜ end ≤ (← ⟦s.len()⟧) ⌝ }
 {
-    if n < codes.len() { n } else { codes.len() }
+    let mut waiting = n;
+    let mut at = from;
+    while at < end {
+        let i = item::item_of(&s[at..]);
+        waiting = put_next(waiting, at == from, i.code, out);
+        at = after(at, i.span, end);
+    }
+    waiting
 }
 
-// The bytes that were read, the bytes that wait, and the code before the next one.
-struct Place {
-    consumed: usize,
-    waiting: usize,
-    before: u32,
-}
-
-// As many codes as the array has room for.
-fn stretch(s: &[u8], waiting: usize, before: u32, codes: &mut [u32], out: &mut [u8]) -> Place {
-    let r = decode::decode(s, codes, flags::LAST);
-    let n = least(r.produced, codes);
-    Place {
-        consumed: r.consumed,
-        waiting: put_all(waiting, before, &codes[..n], out),
-        before: last_of(&codes[..n], before),
+// The end of a line that tells a reason, in the words of the header for C.
+fn put_reason(n: usize, reason: u8, out: &mut [u8]) -> usize {
+    match reason {
+        reason::LONE => put_words(n, b": a continuation byte with nothing to continue\n", out),
+        reason::NEVER => put_words(n, b": C0 and C1 begin no sequence\n", out),
+        reason::BEYOND => put_words(n, b": F5 to FF begin no sequence\n", out),
+        reason::TOO_LONG => put_words(n, b": too long a form of its code\n", out),
+        reason::SURROGATE => put_words(n, b": a surrogate, D800 to DFFF\n", out),
+        reason::TOO_HIGH => put_words(n, b": above 10FFFF, the last code\n", out),
+        reason::CUT_SHORT => put_words(n, b": no continuation byte follows\n", out),
+        _ => put_words(n, b": the end of the input cuts it off\n", out),
     }
 }
 
-// Where the reading goes on. It never stands still, so that it ends.
-fn after(at: usize, consumed: usize, end: usize) -> usize
-    requires { ⌜ at < end ⌝ }
-    ensures { λ r. ⌜ (at < r) × (r ≤ end) ⌝ }
+fn put_place(n: usize, place: usize, out: &mut [u8]) -> usize {
+    let mut digits = [0u8; 20];
+    let k = io::decimal(place as u64, &mut digits);
+    let at = put_words(put_words(n, b"  byte ", out), &digits[..k], out);
+    put_words(at, b", ", out)
+}
+
+// A line for each bad stretch of the bytes of s from `from` up to `end`.
+fn put_why(n: usize, s: &[u8], from: usize, end: usize, out: &mut [u8]) -> usize
+    requires { do ⌜ end ≤ (← ⟦s.len()⟧) ⌝ }
 {
-    if consumed == 0 {
-        return end;
+    let mut waiting = n;
+    let mut at = from;
+    while at < end {
+        let i = item::item_of(&s[at..]);
+        if i.subpart == 0 {
+            at = after(at, i.span, end);
+        } else {
+            let to = after(at, i.subpart, end);
+            waiting = put_codes(put_place(waiting, at, out), s, at, to, out);
+            waiting = put_reason(waiting, reason::reason_of(s, at), out);
+            at = to;
+        }
     }
-    if end - at < consumed {
-        return end;
-    }
-    at + consumed
+    waiting
 }
 
-fn end_line(n: usize, before: u32, out: &mut [u8]) -> usize {
-    if before == LINE_FEED {
-        return n;
+fn put_line(n: usize, s: &[u8], from: usize, end: usize, why: bool, out: &mut [u8]) -> usize
+    requires { do ⌜ end ≤ (← ⟦s.len()⟧) ⌝ }
+{
+    let waiting = put(put_codes(n, s, from, end, out), b'\n', out);
+    if why {
+        return put_why(waiting, s, from, end, out);
     }
-    put(n, b'\n', out)
+    waiting
 }
 
-fn show(s: &[u8], codes: &mut [u32], out: &mut [u8]) {
+// A line feed is part of no other sequence, so that line by line the codes are those of the whole.
+fn put_lines(s: &[u8], why: bool, out: &mut [u8]) -> usize {
     let mut waiting: usize = 0;
-    let mut before = LINE_FEED;
     let mut at: usize = 0;
     while at < s.len() {
-        let p = stretch(&s[at..], waiting, before, codes, out);
-        waiting = p.waiting;
-        before = p.before;
-        at = after(at, p.consumed, s.len());
+        let end = bytes::scan::find(s, at, s.len(), b'\n');
+        waiting = put_line(waiting, s, at, end, why, out);
+        at = end + 1;
     }
-    flush(end_line(waiting, before, out), out);
+    waiting
 }
 
 // The input has ended if there is no byte more.
@@ -213,57 +231,69 @@ fn is_whole(fd: i32, n: usize, name: &[u8]) -> bool {
     false
 }
 
-fn show_input(fd: i32, name: &[u8]) {
+fn show_input(fd: i32, why: bool, name: &[u8]) {
     let mut data = input_buffer();
     let n = io::read_full(fd, &mut data);
     if is_whole(fd, n, name) {
-        let mut codes = [0u32; 256];
         let mut out = io::buffer();
-        show(&data[..n], &mut codes, &mut out);
+        flush(put_lines(&data[..n], why, &mut out), &out);
     }
 }
 
-fn show_file(name: &[u8]) {
+fn show_file(why: bool, name: &[u8]) {
     let fd = os::open_read(name);
     if fd < 0 {
         fail(name);
         return;
     }
-    show_input(fd, name);
+    show_input(fd, why, name);
     libc::close(fd);
 }
 
-fn run(argument: &[u8]) {
-    if argument.len() == 0 {
+fn show_named(why: bool, name: &[u8]) {
+    if name.len() == 0 {
         misused(b"argument", b"the name is empty");
         return;
     }
-    if check::same(argument, b"--help") {
-        help();
+    if name[0] == b'-' {
+        misused(name, b"unknown option");
         return;
     }
-    if argument[0] == b'-' {
-        misused(argument, b"unknown option");
-        return;
-    }
-    show_file(argument);
+    show_file(why, name);
 }
 
-fn main() {
-    let count = os::arg_count();
-    if 2 < count {
-        misused(b"arguments", b"more than one");
-        return;
-    }
-    if count < 2 {
-        show_input(STDIN_FILENO, b"standard input");
-        return;
-    }
+// Argument i, the last.
+fn run(i: usize, why: bool) {
     let mut argument = io::buffer();
-    let n = os::arg(1, &mut argument);
+    let n = os::arg(i, &mut argument);
     if os::errno() != 0 {
         fail(b"argument");
         return;
     }
-    run(&argument[..n]);
+    if check::same(&argument[..n], b"--help") {
+        help();
+        return;
+    }
+    show_named(why, &argument[..n]);
+}
+
+fn is_why() -> bool {
+    let mut argument = [0u8; 8];
+    let n = os::arg(1, &mut argument);
+    check::same(&argument[..n], b"--why")
+}
+
+fn main() {
+    let why = is_why();
+    let last: usize = if why { 2 } else { 1 };
+    let count = os::arg_count();
+    if count <= last {
+        show_input(STDIN_FILENO, why, b"standard input");
+        return;
+    }
+    if last + 1 < count {
+        misused(b"arguments", b"too many");
+        return;
+    }
+    run(last, why);
 }

@@ -1,0 +1,3 @@
+pub mod Reason
+pub mod Request
+pub mod Lines
