@@ -1,13 +1,13 @@
 -- What `scan` finds where a reason holds. Assumes nothing.
 use mathlib.Core.Path.{_≡_, refl, sym, ap, _∙_, subst}
-use mathlib.Core.Logic.{inl}
+use mathlib.Core.Logic.{inl, inr}
 use mathlib.Core.List.{List, [], _∷_, _++_, append-assoc, append-nil}
 use Prim.Native.Nat.{ℕ, suc, _+_, _-_, _≤_, _<_}
 use native.Mathlib.Omega.{arith}
 use native.Mathlib.Decide.{decLe}
 use lib.Dec.{T}
-use lib.ListN.{length, take, length-append}
-use lib.Seq.{take-append-le, take-append-seam, take-append-add}
+use lib.ListN.{length, take, getD, length-append}
+use lib.Seq.{take-append-le, take-append-seam, take-append-add, getD-append-seam}
 use Rattle.form.specs.Table.{Range, _to_, plain, tail, In, Fits, WellFormed, Begins, Partial}
 use Rattle.form.specs.Subpart.{StartsNone}
 use Rattle.form.specs.Scan.{part, bad, scan}
@@ -17,7 +17,7 @@ use Rattle.form.proofs.Rows.{fits-length}
 use Rattle.form.proofs.Scan.{clear-absurd}
 use Rattle.form.proofs.EncodingForms.{later-in}
 use Rattle.form.proofs.Utf8.{plain-scans}
-use Rattle.reason.specs.Reason.{Opens}
+use Rattle.reason.specs.Reason.{Reason, good, lone, never, beyond, too-long, surrogate, too-high, cut-short, unfinished, at-end, Opens, Holds}
 
 -- ---- a sign whose bytes but the last begin a sequence
 
@@ -40,12 +40,12 @@ opens-bad rs w z k t l f b =
         (sym (append-assoc w (take (m - suc k) z) u) ∙ ap (λ (x : List ℕ). x ++ u) (sym e) ∙ sym (append-nil (take m (w ++ z) ++ u)))
 
 -- one range that no sequence begins with
-pub first-bad : (r : Range) (s : List ℕ) → T (clear plain (r ∷ [])) → Opens (r ∷ []) s → scan plain s ≡ bad 0
+first-bad : (r : Range) (s : List ℕ) → T (clear plain (r ∷ [])) → Opens (r ∷ []) s → scan plain s ≡ bad 0
 unfolding plain
 first-bad r s t (w, z, e, f) = ap (scan plain) e ∙ opens-bad (r ∷ []) w z 0 t refl f (0x41 ∷ [], (0x41, inl (((omega arith, omega arith), tt), refl)))
 
 -- a first byte that begins a sequence, and a range that none goes on with
-pub pair-bad : (a : ℕ) (r : Range) (s : List ℕ) → T (clear plain (a to a ∷ r ∷ [])) → scan plain (a ∷ []) ≡ part → Opens (a to a ∷ r ∷ []) s → scan plain s ≡ bad 1
+pair-bad : (a : ℕ) (r : Range) (s : List ℕ) → T (clear plain (a to a ∷ r ∷ [])) → scan plain (a ∷ []) ≡ part → Opens (a to a ∷ r ∷ []) s → scan plain s ≡ bad 1
 pair-bad a r s t p ([], z, e, f) = absurd f
 pair-bad a r s t p (x ∷ w, z, e, f) =
     let i : a ≡ x = omega (arith, f .0) in
@@ -93,3 +93,34 @@ cut-bad a w b z p n =
             let g = plain-scans .finds-well (a ∷ w) c (length v) .1 (rw f h, l) in
             let x : _≡_ {A = ℕ} 0 1 = cc (g, plain-scans .finds-part (a ∷ w) (omega arith) .1 p) in
             omega arith
+
+-- ---- each reason
+
+abbrev pub Finds : Reason → List ℕ → Type 0
+Finds good s = Unit {0}
+Finds lone s = scan plain s ≡ bad 0
+Finds never s = scan plain s ≡ bad 0
+Finds beyond s = scan plain s ≡ bad 0
+Finds too-long s = scan plain s ≡ bad 1
+Finds surrogate s = scan plain s ≡ bad 1
+Finds too-high s = scan plain s ≡ bad 1
+Finds cut-short s = (n : ℕ) × (1 ≤ n) × (scan plain s ≡ bad n) × (In tail (getD s n 0) → ⊥)
+Finds unfinished s = Partial plain s
+Finds at-end s = Unit {0}
+
+pub finds : (r : Reason) (s : List ℕ) → Holds r s → Finds r s
+unfolding plain
+finds good s h = tt
+finds lone s h = first-bad (0x80 to 0xBF) s tt h
+finds never s h = first-bad (0xC0 to 0xC1) s tt h
+finds beyond s h = first-bad (0xF5 to 0xFF) s tt h
+finds too-long s (inl h) = pair-bad 0xE0 (0x80 to 0x9F) s tt refl h
+finds too-long s (inr h) = pair-bad 0xF0 (0x80 to 0x8F) s tt refl h
+finds surrogate s h = pair-bad 0xED (0xA0 to 0xBF) s tt refl h
+finds too-high s h = pair-bad 0xF4 (0x90 to 0xBF) s tt refl h
+finds cut-short s ([], b, z, e, p, n) = absurd (omega (arith, p .0))
+finds cut-short s (a ∷ w, b, z, e, p, n) =
+    subst (Finds cut-short) (sym e)
+    (suc (length w), omega arith, cut-bad a w b z p n, λ t. n (subst (In tail) (getD-append-seam (a ∷ w) b z 0) t))
+finds unfinished s h = h
+finds at-end s h = tt

@@ -1,5 +1,6 @@
 pub mod Signs
 pub mod Found
+pub mod Signless
 pub mod Exactly
 pub mod Request
 pub mod Told

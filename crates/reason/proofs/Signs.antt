@@ -27,9 +27,6 @@ true-opens rs s e = (take (length rs) s, drop (length rs) s, sym (take-append-dr
 pub opens-true : (rs : List Range) (s : List ℕ) → Opens rs s → opens? rs s ≡ true
 opens-true rs s (w, z, e, h) = ap whole? (ap (fit rs) e ∙ whole-fit rs w z h)
 
-pub opens-more : (rs : List Range) (s t : List ℕ) → Opens rs s → Opens rs (s ++ t)
-opens-more rs s t (w, z, e, h) = (w, z ++ t, ap (λ (x : List ℕ). x ++ t) e ∙ append-assoc w z t, h)
-
 pub opens-short : (rs : List Range) (s : List ℕ) → length s < length rs → opens? rs s ≡ false
 opens-short rs s l = go (opens? rs s) refl
   where
@@ -72,32 +69,33 @@ Among (sign q rs ∷ l) r s = ((q ≡ r) × Opens rs s) ⊎ Among l r s
 
 -- none does
 abbrev pub None : List Sign → List ℕ → Type 0
-None [] s = Unit {0}
-None (sign q rs ∷ l) s = (Opens rs s → ⊥) × None l s
+None l s = (r : Reason) → Among l r s → ⊥
 
-pub none-less : (l : List Sign) (s t : List ℕ) → None l (s ++ t) → None l s
-none-less [] s t n = tt
-none-less (sign q rs ∷ l) s t n = (λ h. n .0 (opens-more rs s t h), none-less l s t (n .1))
+pub among-more : (l : List Sign) (r : Reason) (s t : List ℕ) → Among l r s → Among l r (s ++ t)
+among-more [] r s t h = absurd h
+among-more (sign q rs ∷ l) r s t (inl (e, (w, z, f, h))) = inl (e, (w, z ++ t, ap (λ (x : List ℕ). x ++ t) f ∙ append-assoc w z t, h))
+among-more (sign q rs ∷ l) r s t (inr h) = inr (among-more l r s t h)
 
 pub none-first : (l : List Sign) (s : List ℕ) → None l s → first-sign l s ≡ cut-short
 none-first [] s n = refl
-none-first (sign q rs ∷ l) s n = go (opens? rs s) refl (none-first l s (n .1))
+none-first (sign q rs ∷ l) s n = go (opens? rs s) refl (none-first l s (λ r h. n r (inr h)))
   where
     go : (t : Bool) → opens? rs s ≡ t → first-sign l s ≡ cut-short → cond t q (first-sign l s) ≡ cut-short
-    go true e h = absurd (n .0 (true-opens rs s e))
+    go true e h = absurd (n q (inl (refl, true-opens rs s e)))
     go false e h = h
 
 pub first-among : (l : List Sign) (s : List ℕ) → Among l (first-sign l s) s ⊎ None l s
-first-among [] s = inr tt
+first-among [] s = inr (λ r h. h)
 first-among (sign q rs ∷ l) s = go (opens? rs s) refl (first-among l s)
   where
+    shut : opens? rs s ≡ false → None l s → None (sign q rs ∷ l) s
+    shut e n r (inl (i, h)) = let z : true ≡ false = sym (opens-true rs s h) ∙ e in let y : _≡_ {A = ℕ} 0 1 = cc in omega arith
+    shut e n r (inr h) = n r h
+
     go : (t : Bool) → opens? rs s ≡ t → Among l (first-sign l s) s ⊎ None l s → Among (sign q rs ∷ l) (cond t q (first-sign l s)) s ⊎ None (sign q rs ∷ l) s
     go true e h = inl (inl (refl, true-opens rs s e))
     go false e (inl h) = inl (inr h)
-    go false e (inr n) = inr (shut, n)
-      where
-        shut : Opens rs s → ⊥
-        shut h = let z : true ≡ false = sym (opens-true rs s h) ∙ e in let y : _≡_ {A = ℕ} 0 1 = cc in omega arith
+    go false e (inr n) = inr (shut e n)
 
 -- ---- no two signs open the same bytes
 
