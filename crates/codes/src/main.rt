@@ -47,7 +47,11 @@ fn misused(name: &[u8], why: &[u8]) {
 fn help() {
     io::write_all(
         STDOUT_FILENO,
-        b"usage: codes [--why] [FILE]\n       codes --help\n\nShows the codes of FILE, or of standard input, one line for each line:\n\n    U+0034 U+0030 U+2032\n\nA byte that is part of no well-formed UTF-8 sequence is shown as the byte, <E2>.\nThe line feed U+000A ends a line and is not shown. The input has at most 1048576\nbytes.\n\nWith --why each bad stretch of a line has a line of its own below it, with its\nplace in the input, from 0, its bytes and the reason:\n\n    U+0034 U+0030 <E2> <80>\n      byte 2, <E2> <80>: the end of the input cuts it off\n\nThe exit status is always 0. Where the input is refused, standard output stays\nempty, and standard error says why.\n",
+        b"usage: codes [--why] [FILE]\n       codes --help\n\nShows the codes of FILE, or of standard input, one line for each line:\n\n    U+0034 U+0030 U+2032\n\nA byte that is part of no well-formed UTF-8 sequence is shown as the byte, <E2>.\nThe line feed U+000A ends a line and is not shown. The input has at most 1048576\nbytes.\n\n",
+    );
+    io::write_all(
+        STDOUT_FILENO,
+        b"With --why each bad stretch of a line has a line of its own below it, with its\nplace in the input, from 0, its bytes and the reason:\n\n    U+0034 U+0030 <E2> <80>\n      byte 2, <E2> <80>: the end of the input cuts it off\n\nThe exit status is always 0. Where the input is refused, standard output stays\nempty, and standard error says why.\n",
     );
 }
 
