@@ -11,7 +11,7 @@ import functools
 import itertools
 import sys
 
-from peer import below, compare, damage, damaged, random_strings, random_text, short_strings, total
+from peer import below, compare, of_pieces, random_strings, short_strings, texts, total
 
 EVERY, RECORD = 64, 8
 DONE, NO_ROOM, OUTSIDE = 0, 1, 15
@@ -126,21 +126,6 @@ def scrap(room):
     return (bytes(range(1, 250)) * (1 + (room + Index.BEHIND) // 249))[:room + Index.BEHIND]
 
 
-def of_pieces(length):
-    return b''.join(PIECES[below(len(PIECES))] for _ in range(length))
-
-
-def logs(count, length):
-    """Well-formed, damaged, with cut sequences, and any bytes."""
-    for _ in range(count):
-        text = random_text(below(length)).encode()
-        yield text
-        yield damage(text)
-        yield damaged(below(length))
-        yield of_pieces(below(length))
-        yield bytes(below(256) for _ in range(below(length)))
-
-
 def multiples():
     """A piece a multiple of 64 times, and once less or more."""
     for piece, records, more in itertools.product(PIECES, range(1, 6), (-1, 0, 1)):
@@ -247,16 +232,16 @@ def main(library):
     index = Index(library)
     for data in itertools.chain(short_strings(BORDER, NARROW_BORDER), random_strings(2000, BORDER)):
         compare_covers(index, data)
-    for data in itertools.chain(multiples(), logs(40, 400), logs(4, 3000), random_strings(500, BORDER)):
+    for data in itertools.chain(multiples(), texts(PIECES, 40, 400), texts(PIECES, 4, 3000), random_strings(500, BORDER)):
         compare_builds(index, data)
         compare_finds(index, data)
         compare_covers(index, data)
-    for data in logs(400, 300):
+    for data in texts(PIECES, 400, 300):
         compare_false(index, data)
         compare_packets(index, data)
         compare_false_updates(index, data)
-    compare_refusals(index, of_pieces(100))
-    compare_long(index, of_pieces(600000))
+    compare_refusals(index, of_pieces(PIECES, 100))
+    compare_long(index, of_pieces(PIECES, 600000))
     return total()
 
 

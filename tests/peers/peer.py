@@ -172,6 +172,21 @@ def damaged(length, encode=str.encode):
     return data
 
 
+def of_pieces(pieces, length):
+    return b''.join(pieces[below(len(pieces))] for _ in range(length))
+
+
+def texts(pieces, count, length):
+    """Well-formed, damaged, of these pieces, and any bytes."""
+    for _ in range(count):
+        text = random_text(below(length)).encode()
+        yield text
+        yield damage(text)
+        yield damaged(below(length))
+        yield of_pieces(pieces, below(length))
+        yield bytes(below(256) for _ in range(below(length)))
+
+
 def random_strings(count, border, encode=str.encode):
     for _ in range(count):
         yield bytes(below(256) if below(3) else border[below(len(border))] for _ in range(below(16)))

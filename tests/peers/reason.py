@@ -14,7 +14,7 @@ import ctypes
 import itertools
 import sys
 
-from peer import LAST, STRICT, Library, below, compare, damage, damaged, random_strings, random_text, short_strings, total
+from peer import LAST, STRICT, Library, below, compare, of_pieces, random_strings, short_strings, texts, total
 
 GOOD, LONE, NEVER, BEYOND, TOO_LONG, SURROGATE, TOO_HIGH, CUT_SHORT, UNFINISHED, END = range(10)
 MOST = 2 ** 64 - 1
@@ -135,31 +135,15 @@ def compare_long(reasons, data):
         compare_place(reasons, data, len(data) - back)
 
 
-def of_pieces(length):
-    return b''.join(PIECES[below(len(PIECES))] for _ in range(length))
-
-
-def texts(count, length):
-    """Well-formed, damaged, with every reason, and any bytes."""
-    for _ in range(count):
-        text = random_text(below(length)).encode()
-        yield text
-        yield damage(text)
-        yield damaged(below(length))
-        yield of_pieces(below(length))
-        yield damage(of_pieces(below(length)))
-        yield bytes(below(256) for _ in range(below(length)))
-
-
 def main(library):
     reasons = Reasons(library)
-    for data in itertools.chain(short_strings(BORDER, NARROW_BORDER), random_strings(2000, BORDER), texts(200, 40)):
+    for data in itertools.chain(short_strings(BORDER, NARROW_BORDER), random_strings(2000, BORDER), texts(PIECES, 200, 40)):
         compare_places(reasons, data)
-    for data in itertools.chain(texts(100, 200), texts(4, 3000)):
+    for data in itertools.chain(texts(PIECES, 100, 200), texts(PIECES, 4, 3000)):
         compare_stretches(reasons, data)
-    for data in itertools.chain([b''], texts(40, 30)):
+    for data in itertools.chain([b''], texts(PIECES, 40, 30)):
         compare_past(reasons, data)
-    compare_long(reasons, of_pieces(1000) * 700)
+    compare_long(reasons, of_pieces(PIECES, 1000) * 700)
     return total()
 
 
