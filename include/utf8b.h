@@ -237,7 +237,7 @@ static inline uint32_t utf8b_code(const uint8_t *codes, size_t i)
     return code[0] | (uint32_t)code[1] << 8 | (uint32_t)code[2] << 16 | (uint32_t)code[3] << 24;
 }
 
-/* A reason in words, which fit behind "bad bytes: ". */
+/* A reason in words; those of 1 to 8 fit behind "bad bytes: ". */
 static inline const char *utf8b_reason_text(uint32_t reason)
 {
     switch (reason) {

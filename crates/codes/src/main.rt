@@ -153,7 +153,7 @@ fn put_codes(n: usize, s: &[u8], from: usize, end: usize, out: &mut [u8]) -> usi
     waiting
 }
 
-// The end of a line that tells a reason, in the words of the header for C.
+// The end of a line that tells the reason of a bad place, 1 to 8, in the words of the header for C.
 fn put_reason(n: usize, reason: u8, out: &mut [u8]) -> usize {
     match reason {
         reason::LONE => put_words(n, b": a continuation byte with nothing to continue\n", out),

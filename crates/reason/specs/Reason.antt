@@ -1,4 +1,4 @@
--- Why the bytes at a place are bad, in plain UTF-8 with LAST (document 02, C-14). Assumes nothing.
+-- Why the bytes at a place are bad, in plain UTF-8 with LAST (request C-14). Assumes nothing.
 use mathlib.Core.Path.{_≡_}
 use mathlib.Core.Logic.{_⊎_}
 use mathlib.Core.Bool.{Bool, true, false, cond}
@@ -52,7 +52,7 @@ Holds at-end s = s ≡ []
 
 -- ---- the reason that is given. Nobody has to believe it: `exactly` says that it is the one that holds
 
--- bytes that bring a reason, wherever they stand
+-- first bytes that bring a reason, whatever follows
 pub data Sign : Type 0 where
   sign : Reason → List Range → Sign
 

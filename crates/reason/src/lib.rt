@@ -7,7 +7,7 @@ ghost use Rattle.form.specs.Table.{_to_};
 ghost use Rattle.form.specs.Scan.{in?};
 ghost use Rattle.reason.specs.Reason.{number, opens?, judged, reason};
 
-// Document 02's numbers, in the order of `Reason`.
+// The numbers of request C-14, in the order of `Reason`; docs/RULES.md, "Why bytes are bad", has what each says.
 pub const GOOD: u8 = 0;
 
 pub const LONE: u8 = 1;
@@ -34,6 +34,7 @@ fn within(b: u8, lo: u8, hi: u8) -> bool
     lo <= b && b <= hi
 }
 
+// The first byte is in the range.
 fn first_in(s: &[u8], lo: u8, hi: u8) -> bool
     ensures { λ r. ⌜ r ≡ opens? (lo to hi ∷ []) (now (s .entry)) ⌝ }
 {
@@ -43,6 +44,7 @@ fn first_in(s: &[u8], lo: u8, hi: u8) -> bool
     within(s[0], lo, hi)
 }
 
+// The first byte is this one, and the second is in the range.
 fn pair_in(s: &[u8], first: u8, lo: u8, hi: u8) -> bool
     ensures { λ r. ⌜ r ≡ opens? (first to first ∷ lo to hi ∷ []) (now (s .entry)) ⌝ }
 {
@@ -55,7 +57,7 @@ fn pair_in(s: &[u8], first: u8, lo: u8, hi: u8) -> bool
     within(s[1], lo, hi)
 }
 
-// Where no sequence starts and the rest is not partial.
+// By the rows of the request, where no sequence starts and the rest is not partial.
 fn judge(s: &[u8]) -> u8
     ensures { λ r. ⌜ r ≡ number (judged (now (s .entry))) ⌝ }
 {
@@ -83,7 +85,7 @@ fn judge(s: &[u8]) -> u8
     CUT_SHORT
 }
 
-// The reason at a place, by document 02's numbers: 0 at a good place, 9 at or past the end.
+// The reason at a place, by its number: 0 at a good place, 9 at or past the end.
 pub fn reason_of(s: &[u8], place: usize) -> u8
     ensures { λ r. ⌜ r ≡ number (reason (now (s .entry)) place) ⌝ }
 {
