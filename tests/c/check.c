@@ -36,6 +36,15 @@ int64_t enter(int decode, const uint8_t *in, size_t in_len, uint8_t *out, size_t
     return utf8b_encode(in, in_len, out, out_len, flags, report, report_len);
 }
 
+uint64_t consumed_in(const uint8_t *report)
+{
+    uint64_t n = 0;
+
+    for (int i = 7; i >= 0; i--)
+        n = n * 256 + report[i];
+    return n;
+}
+
 void show_bytes(const char *name, const uint8_t *s, size_t n)
 {
     printf("  %s, %zu bytes:", name, n);

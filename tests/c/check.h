@@ -35,6 +35,9 @@ void show_bytes(const char *name, const uint8_t *s, size_t n);
 /* Prints the counts; the exit status of the test. */
 int check_end(void);
 
+/* The consumed count of a report. */
+uint64_t consumed_in(const uint8_t *report);
+
 /* The call itself, with no check. */
 int64_t enter(int decode, const uint8_t *in, size_t in_len, uint8_t *out, size_t out_len, uint32_t flags,
               uint8_t *report, size_t report_len);

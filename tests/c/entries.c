@@ -23,21 +23,6 @@ size_t below(size_t n)
     return random32() % n;
 }
 
-const uint8_t border[BORDER] = {0x00, 0x41, 0x7F, 0x80, 0x8F, 0x90, 0x9F, 0xA0, 0xAF, 0xB0, 0xBF, 0xC0, 0xC1, 0xC2,
-                                0xDF, 0xE0, 0xE1, 0xEC, 0xED, 0xEE, 0xEF, 0xF0, 0xF1, 0xF3, 0xF4, 0xF5, 0xF8, 0xFF};
-
-const uint32_t border_codes[BORDER_CODES] = {
-    0,      1,      0x7F,   0x80,   0x7FF,  0x800,  0xD7FF,  0xD800,   0xDBFF,   0xDC00,     0xDC7F,     0xDC80,
-    0xDCFF, 0xDD00, 0xDFFF, 0xE000, 0xFFFD, 0xFFFF, 0x10000, 0x10FFFF, 0x110000, 0x80000000, 0xFFFFFFFF,
-};
-
-size_t damaged_text(uint8_t *s, size_t n)
-{
-    for (size_t i = 0; i < n; i++)
-        s[i] = below(8) ? border[below(BORDER)] : (uint8_t)random32();
-    return n;
-}
-
 void try_call(int decode, const uint8_t *in, size_t in_len, size_t out_len, uint32_t flags)
 {
     struct call c = {decode, flags, in, in_len, out_len, REPORT};
@@ -64,6 +49,7 @@ static void test_entries(void)
         test_stack();
     }
     test_pieces();
+    test_packets();
 }
 
 int main(int argc, char **argv)

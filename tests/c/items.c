@@ -6,16 +6,12 @@
 /* Short byte strings over the borders, every flag number and every room about them. */
 void test_short_reads(void)
 {
-    size_t most = small ? 1 : 3, all = 1;
-
     check_begin("short reads");
-    for (size_t n = 0; n <= most; n++, all *= BORDER)
-        for (size_t k = 0; k < all; k++) {
+    for (size_t n = 0; n <= (small ? 1 : 3); n++)
+        for (size_t k = 0; k < border_strings(n); k++) {
             uint8_t s[4];
-            size_t rest = k;
 
-            for (size_t i = 0; i < n; i++, rest /= BORDER)
-                s[i] = border[rest % BORDER];
+            border_string(s, n, k);
             for (uint32_t flags = 0; flags < 16; flags++)
                 if (n < 3)
                     for (size_t out_len = 0; out_len < 4 * n + 6; out_len++)

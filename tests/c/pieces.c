@@ -4,15 +4,6 @@
 
 #include <string.h>
 
-static uint64_t consumed_in(const uint8_t *report)
-{
-    uint64_t n = 0;
-
-    for (int i = 7; i >= 0; i--)
-        n = n * 256 + report[i];
-    return n;
-}
-
 /* Converts in calls with little input and little room; answers the bytes produced. */
 static size_t in_pieces(int decode, const uint8_t *in, size_t n, uint8_t *out, uint32_t flags)
 {

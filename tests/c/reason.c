@@ -3,40 +3,6 @@
 
 #include <string.h>
 
-/* The first and last sequences of each row of the table, then what each reason is found at. */
-static const char *const samples[] = {
-    "A", "\x7F", "\xC2\x80", "\xDF\xBF", "\xE0\xA0\x80", "\xE1\x80\x80", "\xEC\xBF\xBF", "\xED\x9F\xBF", "\xEE\x80\x80",
-    "\xEF\xBF\xBF", "\xF0\x90\x80\x80", "\xF1\x80\x80\x80", "\xF3\xBF\xBF\xBF", "\xF4\x8F\xBF\xBF",
-    "\x80", "\xBF", "\xC0\x80", "\xC1", "\xF5\x80", "\xFF", "\xE0\x80", "\xE0\x9F\xBF", "\xF0\x80", "\xF0\x8F\xBF\xBF",
-    "\xED\xA0\x80", "\xED\xBF", "\xF4\x90\x80\x80", "\xF4\xBF", "\xC3", "\xE1", "\xE2\x80", "\xF4", "\xF1\x80",
-    "\xF0\x9F\x92",
-};
-enum { SAMPLES = sizeof samples / sizeof samples[0] };
-
-void fill_samples(uint8_t *s, size_t n)
-{
-    for (size_t at = 0; at < n;) {
-        const char *sample = samples[below(SAMPLES)];
-        size_t length = strlen(sample) < n - at ? strlen(sample) : n - at;
-
-        memcpy(s + at, sample, length);
-        if (below(4) == 0)
-            s[at + below(length)] = below(2) ? border[below(BORDER)] : (uint8_t)random32();
-        at += length;
-    }
-}
-
-size_t border_strings(size_t n)
-{
-    return n == 0 ? 1 : BORDER * border_strings(n - 1);
-}
-
-void border_string(uint8_t *s, size_t n, size_t k)
-{
-    for (size_t i = 0; i < n; i++, k /= BORDER)
-        s[i] = border[k % BORDER];
-}
-
 static uint32_t try_reason(const uint8_t *s, size_t n, size_t place)
 {
     struct reason_call c = {s, n, place};

@@ -5,13 +5,6 @@
 #include "reason_check.h"
 #include "tests.h"
 
-/* n bytes of sequences and of what each reason is found at, some of them damaged, cut off wherever that is. */
-void fill_samples(uint8_t *s, size_t n);
-
-/* All strings of n bytes, at most 4, over the borders: the k-th of them, from 0, and how many there are. */
-void border_string(uint8_t *s, size_t n, size_t k);
-size_t border_strings(size_t n);
-
 void test_reason_lines(void);
 void test_reason_header(void);
 void test_reason_null(void);

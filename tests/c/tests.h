@@ -21,6 +21,13 @@ extern const uint32_t border_codes[BORDER_CODES];
 /* n bytes, most of them from the borders. */
 size_t damaged_text(uint8_t *s, size_t n);
 
+/* All strings of n bytes, at most 4, over the borders: the k-th of them, from 0, and how many there are. */
+void border_string(uint8_t *s, size_t n, size_t k);
+size_t border_strings(size_t n);
+
+/* n bytes of sequences and of bad ones, some of them damaged, cut off wherever that is. */
+void fill_samples(uint8_t *s, size_t n);
+
 /* One call with a good report, against the model. */
 void try_call(int decode, const uint8_t *in, size_t in_len, size_t out_len, uint32_t flags);
 
@@ -39,6 +46,7 @@ void test_random_writes(void);
 void test_stretches(void);
 void test_byte_places(void);
 void test_pieces(void);
+void test_packets(void);
 void test_stack(void);
 void test_index(void);
 void test_reason(void);

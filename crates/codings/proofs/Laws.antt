@@ -71,11 +71,20 @@ pub surro-decides : (K : Coding) (m n : Flags) → m .surro ≡ n .surro → ref
 surro-decides Utf8 m n e = refl
 surro-decides Cesu8 m n e = e
 
--- every reader takes LAST alone, and every writer no flags
+pub surro-decides-form : (K : Coding) (m n : Flags) → m .surro ≡ n .surro → reader-form K m ≡ reader-form K n
+surro-decides-form Utf8 m n e = rw e refl
+surro-decides-form Cesu8 m n e = refl
+
+-- every reader takes LAST alone and STRICT alone, and every writer no flags
 pub takes-last : (K : Coding) → reader-refuses-in K 1 ≡ false
 unfolding reader-refuses-in reader-refuses flagsOf
 takes-last Utf8 = refl
 takes-last Cesu8 = refl
+
+pub takes-strict : (K : Coding) → reader-refuses-in K 4 ≡ false
+unfolding reader-refuses-in reader-refuses flagsOf
+takes-strict Utf8 = refl
+takes-strict Cesu8 = refl
 
 pub takes-none : (K : Coding) → writer-refuses-in K 0 ≡ false
 unfolding writer-refuses-in writer-refuses flagsOf

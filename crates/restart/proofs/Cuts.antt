@@ -91,7 +91,7 @@ module _ {F : Form} {n : ℕ} (E : EncodingForm F n) (room : n ≤ 15) where
       record { parts = p; after = next ∙ sense-state E room (hold (h ++ i)) (part-hold E (h ++ i) p) }
 
   -- code 0 is one byte, so nothing was held before it
-  null-first : (s t : List ℕ) (m : ℕ) → scan F s ≡ part → scan F (s ++ t) ≡ well 0 m → length s ≡ 0
+  pub null-first : (s t : List ℕ) (m : ℕ) → scan F s ≡ part → scan F (s ++ t) ≡ well 0 m → length s ≡ 0
   null-first [] t m p f = refl
   null-first (b ∷ s) t m p f = go m (E .ascii _ 0 (omega arith) .0 (E .scans .finds-well (b ∷ (s ++ t)) 0 m .0 f .0))
     where

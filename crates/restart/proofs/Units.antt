@@ -30,7 +30,7 @@ use Rattle.restart.proofs.States.{Units, code-units, sense-state, sense
 -- ---- pending units
 
 -- what a step finds pending
-data Due : Bits → Meaning → List ℕ → Type 0 where
+pub data Due : Bits → Meaning → List ℕ → Type 0 where
   none : {b : Bits} {m : Meaning} → Due b m []
   some : (us : List ℕ) → Due eight (trail us) us
   one : (u : ℕ) → Due sixteen (low u) (u ∷ [])
@@ -49,28 +49,28 @@ due sixteen (high u) = none
 due thirty-two m = none
 
 -- a call brings the first of them, and the others stay
-comes : (F : Form) {b : Bits} {m : Meaning} {u : ℕ} {us : List ℕ} (s : Record) (i : List ℕ) → Due b m (u ∷ us) → senseOf F s ≡ valid m
+pub due-comes : (F : Form) {b : Bits} {m : Meaning} {u : ℕ} {us : List ℕ} (s : Record) (i : List ℕ) → Due b m (u ∷ us) → senseOf F s ≡ valid m
     → reading F b s i ≡ to (tell continuation 0 u 0 0) (left (width b) us)
 unfolding step
-comes F s i (some vs) e = rw e refl
-comes F s i (one v) e = rw e refl
+due-comes F s i (some vs) e = rw e refl
+due-comes F s i (one v) e = rw e refl
 
-others : (F : Form) {b : Bits} {m : Meaning} {u : ℕ} {us : List ℕ} → Due b m (u ∷ us) → Valid F m → Due b (left (width b) us) us × Valid F (left (width b) us)
-others F {us = []} (some vs) v = (none, tt)
-others F {us = x ∷ us} (some vs) v = (some (x ∷ us), ((omega arith, omega arith), v .1 .1))
-others F (one u) v = (none, tt)
+pub due-rest : (F : Form) {b : Bits} {m : Meaning} {u : ℕ} {us : List ℕ} → Due b m (u ∷ us) → Valid F m → Due b (left (width b) us) us × Valid F (left (width b) us)
+due-rest F {us = []} (some vs) v = (none, tt)
+due-rest F {us = x ∷ us} (some vs) v = (some (x ∷ us), ((omega arith, omega arith), v .1 .1))
+due-rest F (one u) v = (none, tt)
 
 -- where none are left the state is the starting state
 left-none : (b : Bits) (us : List ℕ) → us ≡ [] → recordOf (left (width b) us) ≡ start
 left-none b us e = rw e refl
 
-few : (F : Form) {b : Bits} {m : Meaning} {us : List ℕ} → Due b m us → Valid F m → length us ≤ 3
-few F none v = omega arith
-few F (some us) v = v .0 .1
-few F (one u) v = omega arith
+pub due-few : (F : Form) {b : Bits} {m : Meaning} {us : List ℕ} → Due b m us → Valid F m → length us ≤ 3
+due-few F none v = omega arith
+due-few F (some us) v = v .0 .1
+due-few F (one u) v = omega arith
 
 pub pending-few : (F : Form) (b : Bits) (m : Meaning) → Valid F m → length (width b .due m) ≤ 3
-pending-few F b m v = few F (due b m) v
+pending-few F b m v = due-few F (due b m) v
 
 one-due : {m : Meaning} {us : List ℕ} → Due sixteen m us → length us ≤ 1
 one-due none = omega arith
@@ -81,14 +81,14 @@ pending-one m = one-due (due sixteen m)
 
 -- ---- a whole sequence
 
-code-zero : (b : Bits) → width b .units 0 ≡ 0 ∷ []
+pub code-zero : (b : Bits) → width b .units 0 ≡ 0 ∷ []
 unfolding plain utf16
 code-zero eight = refl
 code-zero sixteen = refl
 code-zero thirty-two = refl
 
 -- the others are due in that state
-rest-due : (b : Bits) (c : ℕ) → Scalar c → (u : Units (width b) c) → Due b (left (width b) (u .rest)) (u .rest)
+pub rest-due : (b : Bits) (c : ℕ) → Scalar c → (u : Units (width b) c) → Due b (left (width b) (u .rest)) (u .rest)
 rest-due b c s u = go b (u .first) (u .rest) (u .are)
   where
     go : (b : Bits) (x : ℕ) (us : List ℕ) → width b .units c ≡ x ∷ us → Due b (left (width b) us) us
@@ -115,9 +115,9 @@ module _ {F : Form} {n : ℕ} (E : EncodingForm F n) (room : n ≤ 15) where
   out (u ∷ us) b m s [] d e l = absurd (omega arith)
   out (u ∷ us) b m s (i ∷ is) d e l =
       let n = left (width b) us in
-      let (q, v) = others F d (sense-valid E s m e) in
+      let (q, v) = due-rest F d (sense-valid E s m e) in
       let r = out us b n (recordOf n) is q (sense-state E room n v) (omega arith) in
-      rw (comes F s i d e) (ap (λ (t : List Told). tell continuation 0 u 0 0 ∷ t) (r .0), λ h. r .1 (left-none b us))
+      rw (due-comes F s i d e) (ap (λ (t : List Told). tell continuation 0 u 0 0 ∷ t) (r .0), λ h. r .1 (left-none b us))
 
   pub pending : (b : Bits) (s : Record) (m : Meaning) (is : List (List ℕ)) → senseOf F s ≡ valid m → length is ≡ length (width b .due m)
       → (answers F b s is ≡ map (λ u. tell continuation 0 u 0 0) (width b .due m)) × ((1 ≤ length is) → state-after F b s is ≡ start)

@@ -1,0 +1,3 @@
+pub mod Reader
+pub mod Steps
+pub mod Checked
