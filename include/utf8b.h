@@ -85,6 +85,12 @@ extern "C" {
  *   - else the room is full.  What is left may then be a cut sequence, too: it is
  *     if a call for what is left, with room, consumes nothing.
  *
+ * A line may come in packets, cut anywhere: what a call leaves goes before the next
+ * packet, and UTF8B_LAST to the last alone, at the end of the link and not after a
+ * silence.  Then the codes, the bytes consumed and the first bad stretch are those of
+ * one call for the line.  Codes of packets that were each read with UTF8B_LAST are not
+ * to be put end to end: E2 80 and B2 would be three escapes, which are written as U+2032.
+ *
  * The bad stretch is the maximal subpart of the Unicode Standard (section 3.9): the
  * longest beginning of a well-formed sequence there, or else one byte.  With
  * UTF8B_LAST a sequence cut off at the end is one bad stretch.
