@@ -17,24 +17,24 @@ use Rattle.form.proofs.Tests.{open?}
 use Rattle.form.proofs.EncodingForms.{EncodingForm}
 use Rattle.flags.specs.Number.{flagsOf}
 use Rattle.codings.specs.declared.Coding.{Coding}
-use Rattle.codings.specs.Codings.{reader-form, writer-form, longest, reader-refuses-in}
+use Rattle.codings.specs.Codings.{writer-form, longest}
 use Rattle.codings.proofs.Laws.{longest-few, same-form, encodes, sound, takes-strict}
 use Rattle.readings.specs.Reading as Whole
 use Rattle.readings.specs.Reading.{Reading, stopped, follow}
 use Rattle.readings.proofs.Readings.{reading-stop, reading-convert, turn-found, accepted}
 use Rattle.readings.proofs.Theorems.{reading-rooms, reading-enough}
-use Rattle.state.specs.Meaning.{Meaning, starting, held, trail, low, high, Valid, valid, recordOf, senseOf}
+use Rattle.state.specs.Meaning.{Meaning, starting, Valid, valid, recordOf, senseOf}
 use Rattle.state.specs.declared.Record.{Record}
 use Rattle.units.specs.Width.{left}
-use Rattle.advance.specs.Step.{null, Told, tell, Step, to, hold, convert, reads}
+use Rattle.advance.specs.Step.{null, tell, Step, to, hold, convert, reads}
 use Rattle.advance.proofs.Windows.{ends-after}
-use Rattle.restart.specs.Runs.{Bits, width, reading, answers, state-after}
+use Rattle.restart.specs.Runs.{Bits, width, reading}
 use Rattle.restart.specs.Packets.{start}
-use Rattle.restart.proofs.States.{code-units, sense-state, hold-part, part-hold, reads-on}
+use Rattle.restart.proofs.States.{code-units, sense-state, hold-part, part-hold, reads-found}
 use Rattle.restart.proofs.Units.{Due, some, one, due-comes, due-rest, due-few, code-zero, rest-due}
 use Rattle.restart.proofs.Refusals.{readings}
 use Rattle.restart.proofs.Cuts.{null-first}
-use Rattle.packets.specs.Steps.{goes-on, Run, left-of, InPackets, Outcome, units-of, first-bad, outcome, at-once, UncutSteps}
+use Rattle.packets.specs.Steps.{goes-on, Run, left-of, InPackets, Outcome, outcome, at-once, UncutSteps}
 
 -- these units, and then what o has
 unfoldable before : List ℕ → Outcome → Outcome
@@ -217,13 +217,10 @@ module _ {F : Form} {n : ℕ} (E : EncodingForm F n) (room : n ≤ 15) (o : T (o
       same-all : h ++ i ++ z ≡ all
       same-all = append-assoc h i z ∙ ap (λ (y : List ℕ). h ++ y) (sym e)
 
-      is-found : (y : Found) → scan F (h ++ i) ≡ y → reading F b s i ≡ reads (width b) h i y
-      is-found y f = reads-on F b s h i sense ∙ ap (reads (width b) h i) f
-
       on-part : scan F (h ++ i) ≡ part → outcome F b k s (i ∷ is) ≡ expect E o b j all
       unfolding before
       on-part f =
-          let r = is-found part f in
+          let r = reads-found F b s h i part sense f in
           let d : drop (length i) x ≡ z = ap (drop (length i)) e ∙ drop-append-seam i z in
           let a = rw d at (went-on 2 is _ (omega arith) (subst (After F b x is) r g)) in
           waited F b k s i is _ r refl
@@ -232,7 +229,7 @@ module _ {F : Form} {n : ℕ} (E : EncodingForm F n) (room : n ≤ 15) (o : T (o
 
       on-bad : (m : ℕ) → scan F (h ++ i) ≡ bad m → outcome F b k s (i ∷ is) ≡ expect E o b j all
       on-bad m f =
-          let r = is-found (bad m) f in
+          let r = reads-found F b s h i (bad m) sense f in
           let l : k - length h ≡ j = omega arith in
           let p : scan F all ≡ bad m = ap (scan F) (sym same-all) ∙ E .scans .bad-stays (h ++ i) z m f in
           refused-at F b k s i is _ r refl (ended 3 is _ refl (subst (After F b x is) r g)) ∙ rw l (sym (expect-bad E o b j all m p))
@@ -241,7 +238,7 @@ module _ {F : Form} {n : ℕ} (E : EncodingForm F n) (room : n ≤ 15) (o : T (o
       unfolding before
       on-well c m f =
           let y = reads (width b) h i (well c m) in
-          let r = is-found (well c m) f in
+          let r = reads-found F b s h i (well c m) sense f in
           let part-h = hold-part E h v in
           let W = converts E room b h i c m part-h f in
           let l = ends-after (E .scans) h i c m part-h f in
@@ -313,15 +310,12 @@ module _ {F : Form} {n : ℕ} (E : EncodingForm F n) (room : n ≤ 15) (b : Bits
         (p ∷ is, (refl, subst (Next p ps is) (sym (due-comes F s p d e)) (inr (omega arith, c))))
     more (p ∷ ps) s us h (holds w e g v) l = go (scan F (w ++ p)) refl
       where
-        is-found : (y : Found) → scan F (w ++ p) ≡ y → reading F b s p ≡ reads (width b) w p y
-        is-found y f = reads-on F b s w p g ∙ ap (reads (width b) w p) f
-
         go : (y : Found) → scan F (w ++ p) ≡ y → (is : List (List ℕ)) × InPackets F b s (p ∷ ps) is
         go part f =
             let (is, c) = ih ps (recordOf (hold (w ++ p))) [] (w ++ p) (stands-hold E room b (w ++ p) (part-hold E (w ++ p) f)) (omega (arith, length-append p (flatten ps))) in
             let d : drop (length p) p ≡ [] = drop-length p in
-            (p ∷ is, (refl, subst (Next p ps is) (sym (is-found part f)) (inr (omega arith, rw d c))))
-        go (bad m) f = (p ∷ [], (refl, subst (Next p ps []) (sym (is-found (bad m) f)) (inl (refl, refl))))
+            (p ∷ is, (refl, subst (Next p ps is) (sym (reads-found F b s w p part g f)) (inr (omega arith, rw d c))))
+        go (bad m) f = (p ∷ [], (refl, subst (Next p ps []) (sym (reads-found F b s w p (bad m) g f)) (inl (refl, refl))))
         go (well c m) f =
             let y = reads (width b) w p (well c m) in
             let part-w = hold-part E w v in
@@ -333,7 +327,7 @@ module _ {F : Form} {n : ℕ} (E : EncodingForm F n) (room : n ≤ 15) (b : Bits
             let less : length q < length p = omega (arith, length-drop (y .answer .consumed) p, W .takes, k, i, length-append w p) in
             let (is, d) = ih (left-of q ps) (y .next) (W .rest) [] (W .stands)
             (omega (arith, ap (length {A = ℕ}) (flatten-left q ps), less, few, left-few q ps, length-append p (flatten ps), length-append q (flatten ps))) in
-            (p ∷ is, (refl, subst (Next p ps is) (sym (is-found (well c m) f)) (inr (omega (arith, W .good), d))))
+            (p ∷ is, (refl, subst (Next p ps is) (sym (reads-found F b s w p (well c m) g f)) (inr (omega (arith, W .good), d))))
 
   runs : (most : ℕ) → Runs most
   runs zero = none-left

@@ -16,7 +16,7 @@ use Rattle.units.specs.Width.{Width}
 use Rattle.advance.specs.Step.{Name, refused, continuation, incomplete, bad-sequence, null, unit, tell, Step, to, hold, convert, reads, come-out, step}
 use Rattle.restart.specs.Runs.{Bits, width, reading, going-on, until-decided, total}
 use Rattle.restart.specs.Packets.{later}
-use Rattle.restart.proofs.States.{sense-state, sense-valid, part-hold, few, reads-on}
+use Rattle.restart.proofs.States.{sense-state, sense-valid, part-hold, few, reads-on, reads-found}
 
 -- ---- a state either holds bytes, perhaps none, or its answer is settled before the input
 
@@ -62,21 +62,17 @@ module _ {F : Form} {n : ℕ} (E : EncodingForm F n) (room : n ≤ 15) where
       go (valid (low u)) e = out (width b .due (low u)) (λ i. rw e refl)
       go (valid (high u)) e = out [] (λ i. rw e refl)
 
-  -- what is found in the bytes held and the input
-  found : (b : Bits) (s : Record) (h i : List ℕ) (x : Found) → senseOf F s ≡ valid (hold h) → scan F (h ++ i) ≡ x → reading F b s i ≡ reads (width b) h i x
-  found b s h i x e f = reads-on F b s h i e ∙ ap (reads (width b) h i) f
-
   found-both : (b : Bits) (s : Record) (h i j : List ℕ) (x : Found) → senseOf F s ≡ valid (hold h) → scan F (h ++ i ++ j) ≡ x
       → reading F b s (i ++ j) ≡ reads (width b) h (i ++ j) x
-  found-both b s h i j x e f = found b s h (i ++ j) x e (ap (scan F) (sym (append-assoc h i j)) ∙ f)
+  found-both b s h i j x e f = reads-found F b s h (i ++ j) x e (ap (scan F) (sym (append-assoc h i j)) ∙ f)
 
   pub stays : (b : Bits) (s : Record) (i j : List ℕ) → (reading F b s i .answer .name ≡ incomplete → ⊥) → reading F b s (i ++ j) ≡ reading F b s i
   stays b s i j k = go (reader b s)
     where
       by : (h : List ℕ) → senseOf F s ≡ valid (hold h) → (x : Found) → scan F (h ++ i) ≡ x → reading F b s (i ++ j) ≡ reading F b s i
-      by h e part f = absurd (k (ap named (found b s h i part e f)))
-      by h e (well c m) f = found-both b s h i j (well c m) e (E .scans .well-stays (h ++ i) j c m f) ∙ sym (found b s h i (well c m) e f)
-      by h e (bad m) f = found-both b s h i j (bad m) e (E .scans .bad-stays (h ++ i) j m f) ∙ sym (found b s h i (bad m) e f)
+      by h e part f = absurd (k (ap named (reads-found F b s h i part e f)))
+      by h e (well c m) f = found-both b s h i j (well c m) e (E .scans .well-stays (h ++ i) j c m f) ∙ sym (reads-found F b s h i (well c m) e f)
+      by h e (bad m) f = found-both b s h i j (bad m) e (E .scans .bad-stays (h ++ i) j m f) ∙ sym (reads-found F b s h i (bad m) e f)
 
       go : Reader F b s → reading F b s (i ++ j) ≡ reading F b s i
       go (holds h e) = by h e (scan F (h ++ i)) refl
@@ -87,7 +83,7 @@ module _ {F : Form} {n : ℕ} (E : EncodingForm F n) (room : n ≤ 15) where
   waits : (b : Bits) (s : Record) (h i : List ℕ) → senseOf F s ≡ valid (hold h) → reading F b s i .answer .name ≡ incomplete → Waits F b s h i
   waits b s h i e k =
       let p = reads-name (width b) h i (scan F (h ++ i)) (sym (ap named (reads-on F b s h i e)) ∙ k) in
-      let next = ap (λ (x : Step). senseOf F (x .next)) (found b s h i part e p) in
+      let next = ap (λ (x : Step). senseOf F (x .next)) (reads-found F b s h i part e p) in
       record { parts = p; after = next ∙ sense-state E room (hold (h ++ i)) (part-hold E (h ++ i) p) }
 
   -- code 0 is one byte, so nothing was held before it
@@ -126,7 +122,7 @@ module _ {F : Form} {n : ℕ} (E : EncodingForm F n) (room : n ≤ 15) where
       go (holds h e) =
           let w = waits b s h i e k in
           let x = scan F (h ++ i ++ j) in
-          found b (reading F b s i .next) (h ++ i) j x (w .after) refl
+          reads-found F b (reading F b s i .next) (h ++ i) j x (w .after) refl
           ∙ together (width b) h i j x (w .parts) refl
           ∙ sym (ap (later (length i)) (found-both b s h i j x e refl))
 
