@@ -138,7 +138,7 @@ static void compare_cut(void)
     expect(same(&whole, &joined), "packets matter");
 }
 
-/* Bit i of the mask cuts behind byte i; every third cut is a packet of no bytes, too. */
+/* Bit i of the mask cuts behind byte i.  An empty packet stands at some of the cuts, and sometimes at the end. */
 static void cut_by(size_t mask)
 {
     cut.packets = 0;
