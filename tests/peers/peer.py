@@ -1,4 +1,5 @@
-"""What the comparisons with CPython share: cpython.py for UTF-8, cesu8.py for CESU-8, reason.py for reasons, index.py for an index."""
+"""What the comparisons with CPython share: cpython.py for UTF-8, cesu8.py for CESU-8, packets.py for lines in packets,
+reason.py for reasons, index.py for an index."""
 
 import codecs
 import ctypes
@@ -34,7 +35,7 @@ def shown(value):
     return str(value)
 
 
-def compare(expected, answer, *what):
+def compare(expected, answer, *what, by='CPython'):
     """Counts one comparison; what is said of it is only put together for a difference."""
     global compared, differences
     compared += 1
@@ -42,7 +43,7 @@ def compare(expected, answer, *what):
         return
     differences += 1
     print('difference:', *map(shown, what))
-    print('  CPython:', shown(expected))
+    print(f'  {by}:', shown(expected))
     print('  here:   ', shown(answer))
     if differences == MOST_DIFFERENCES:
         sys.exit('too many differences')
@@ -241,20 +242,24 @@ def step_on(command, run, lengths):
     return f'{command} {run.record} {piece.hex() or "-"}'
 
 
-def step_take(run, fields):
+def pending(run):
+    """8-bit units or a 16-bit unit."""
+    return run.record[:2] in ('02', '03')
+
+
+def step_take(run, fields, size=2):
     answer, _, unit, consumed, held, length, run.record = fields
     run.at += int(consumed)
     if unit != '-':
-        run.made += int(unit, 16).to_bytes(2, 'little')
+        run.made += int(unit, 16).to_bytes(size, 'little')
     if answer not in ('unit', 'null', 'continuation', 'incomplete'):
         run.bad = run.at - int(held) if answer == 'bad' else answer
     run.length = None if length == '-' else int(length)
-    pending = run.record.startswith('03')
-    run.over = run.bad is not None or (run.at == len(run.source) and not pending)
+    run.over = run.bad is not None or (run.at == len(run.source) and not pending(run))
 
 
-def compare_runs(probe, sources, on, take, expected):
-    runs = [Run(source) for source in sources]
+def compare_runs(probe, sources, on, take, expected, start=Run, by='CPython'):
+    runs = [start(source) for source in sources]
     live = [run for run in runs if run.source]
     for _ in range(MOST_CALLS):
         if not live:
@@ -268,4 +273,5 @@ def compare_runs(probe, sources, on, take, expected):
     for run in live:
         run.bad = 'no end'
     for run in runs:
-        compare(expected(run.source), (run.made, run.bad, run.length, run.record), 'run of steps over', run.source)
+        compare(expected(run.source), (run.made, run.bad, run.length, run.record), 'run of steps over', run.source,
+                by=by)
