@@ -13,22 +13,44 @@ import itertools
 import sys
 
 from peer import (LAST, SHOW, STRICT, SURRO, Library, Run, answer_of, below, compare, compare_runs, damage, of_pieces,
-                  pending, record_of, step_take, texts, total, wide)
+                  packed, pending, record_of, step_take, texts, total, wide)
 
 ERRORS = {0: 'surrogateescape', SHOW: 'replace', STRICT: 'strict', STRICT | SURRO: 'surrogatepass'}
 PEER_FLAGS = [flags | last for flags in ERRORS for last in (0, LAST)]
 TRIED_FLAGS = range(17)
-READER_FLAGS = [flags for flags in range(16) if flags & (STRICT | SHOW) != STRICT | SHOW]
-CESU8_FLAGS = [flags for flags in READER_FLAGS if not flags & SURRO]
+UTF8_FLAGS = [flags for flags in range(16) if flags & (STRICT | SHOW) != STRICT | SHOW]
+CESU8_FLAGS = [flags for flags in UTF8_FLAGS if not flags & SURRO]
 REFUSED = -4, 0, 0, b''
 
 # Of each step the bytes of a unit, and CPython's name for such units.
 UTF8_STEPS = {'step8': (1, 'utf-8'), 'step16': (2, 'utf-16-le'), 'step32': (4, 'utf-32-le')}
 CESU8_STEPS = {'cesu8-step16': (2, 'utf-16-le')}
-STEPS = UTF8_STEPS | CESU8_STEPS
+STEPS = {**UTF8_STEPS, **CESU8_STEPS}
 
-# Packets with '/' between; the units, the first bad place and the length there, and what is held at the end.
-LINES = [
+# Flags, packets with '/' between; the codes, the bytes consumed, and the length of the bad stretch.
+UTF8_LINES = [
+    (LAST, '3430E280//B2', [0x34, 0x30, 0x2032], 5, 0),
+    (LAST, 'ED/A0/80', [0xDCED, 0xDCA0, 0xDC80], 3, 0),
+    (LAST | SURRO, 'ED/A0/80', [0xD800], 3, 0),
+    (SHOW, 'E1/80/E2', [0xFFFD], 2, 0),
+    (SHOW | LAST, 'E1/80/E2', [0xFFFD, 0xFFFD], 3, 0),
+    (SHOW | LAST, 'ED/A0/41', [0xFFFD, 0xFFFD, 0x41], 3, 0),
+    (SHOW | LAST | SURRO, 'ED/A0/41', [0xFFFD, 0x41], 3, 0),
+    (STRICT, 'E1/80/E2', [], 0, 2),
+    (STRICT, '41F09F/92/', [0x41], 1, 0),
+    (STRICT | LAST, '41F09F/92/', [0x41], 1, 3),
+]
+CESU8_LINES = [
+    (LAST, 'EDA0BDED//B2/A7', [0x1F4A7], 6, 0),
+    (0, '41EDA080/ED//B0', [0x41], 1, 0),
+    (LAST, 'EDA080ED/9FBF', [0xDCED, 0xDCA0, 0xDC80, 0xD7FF], 6, 0),
+    (SHOW | LAST, 'EDA080ED/9FBF', [0xFFFD, 0xFFFD, 0xFFFD], 6, 0),
+    (STRICT, '41EDA080ED/9FBF', [0x41], 1, 4),
+    (STRICT | LAST, '41EDA080/ED//B0', [0x41], 1, 5),
+]
+
+# Steps, packets; the units, the first bad place and the length there, and what is held at the end.
+STEP_LINES = [
     (UTF8_STEPS, '', [], None, None, ''),
     (UTF8_STEPS, '41E2/34', [0x41], 1, 1, ''),
     (UTF8_STEPS, '00E2/34', [0], 1, 1, ''),
@@ -67,6 +89,10 @@ waited = 0
 
 # Inputs.
 
+def packets_of(digits):
+    return [bytes.fromhex(packet) for packet in digits.split('/')]
+
+
 def cut(line):
     """Packets of 0 to 24 bytes, short ones above all; empty ones behind the line too."""
     packets = []
@@ -97,6 +123,10 @@ def lines_of(pieces, count, length):
 
 class Reader(Library):
     """Before each call the report is zeros, and after a refused one it still is."""
+
+    def __init__(self, path, form=''):
+        super().__init__(path, form)
+        self.coding, self.flags = ('CESU-8', CESU8_FLAGS) if form else ('UTF-8', UTF8_FLAGS)
 
     def read(self, data, flags, room=Library.ROOM):
         self.report.raw = bytes(9)
@@ -204,23 +234,35 @@ def compare_with_decoder(reader):
             compare_packets(reader, cut(line), flags)
 
 
-def compare_at_once(reader, known_flags, line, cuts):
+def compare_in_all(reader, packets, flags, expected, by):
+    compare(expected, read_in_all(reader, packets, flags), reader.coding, 'flags', flags, 'packets', packets, by=by)
+
+
+def compare_written_out(reader, lines):
+    for flags, digits, codes, consumed, length in lines:
+        expected = answer_of(len(codes), length > 0), consumed, length, packed(codes)
+        compare_in_all(reader, packets_of(digits), flags, expected, 'written out')
+
+
+def compare_at_once(reader, line, cuts):
     for flags in TRIED_FLAGS:
-        expected = reader.read(line, flags) if flags in known_flags else REFUSED
+        expected = reader.read(line, flags) if flags in reader.flags else REFUSED
         for packets in cuts:
-            compare(expected, read_in_all(reader, packets, flags), 'flags', flags, 'packets', packets, by='at once')
+            compare_in_all(reader, packets, flags, expected, 'at once')
 
 
 def compare_utf8(reader):
+    compare_written_out(reader, UTF8_LINES)
     for line in itertools.chain(short_lines(NARROW_BORDER, [4]), lines_of(PIECES, 120, 60)):
-        compare_at_once(reader, READER_FLAGS, line, [cut(line), cut(line)])
+        compare_at_once(reader, line, [cut(line), cut(line)])
 
 
 def compare_cesu8(reader):
+    compare_written_out(reader, CESU8_LINES)
     for line in PAIR_LINES:
-        compare_at_once(reader, CESU8_FLAGS, line, list(every_cut(line)))
+        compare_at_once(reader, line, list(every_cut(line)))
     for line in itertools.chain(short_lines(CESU8_BORDER, [4]), lines_of(CESU8_PIECES, 120, 60)):
-        compare_at_once(reader, CESU8_FLAGS, line, [cut(line), cut(line)])
+        compare_at_once(reader, line, [cut(line), cut(line)])
 
 
 # Runs of the steps.
@@ -264,11 +306,11 @@ def take(run, fields):
 
 # Comparisons of the steps. Of a run: the units, the first bad place, the length there, and the record at the end.
 
-def written_out():
+def step_lines():
     """Each source with what it must give."""
-    for steps, packets, units, place, length, held in LINES:
+    for steps, digits, units, place, length, held in STEP_LINES:
         for step in steps:
-            source = (step, *map(bytes.fromhex, packets.split('/')))
+            source = (step, *packets_of(digits))
             made = b''.join(unit.to_bytes(STEPS[step][0], 'little') for unit in units)
             yield source, (made, place, length, record_of(1, bytes.fromhex(held)))
 
@@ -284,8 +326,8 @@ def told_at_once(reader, source):
     return units, None, None, record_of(1, line[consumed:])
 
 
-def compare_fixed(probe):
-    lines = dict(written_out())
+def compare_step_lines(probe):
+    lines = dict(step_lines())
     compare_runs(probe, lines, give_packet, take, lines.get, StepRun, 'written out')
 
 
@@ -318,7 +360,7 @@ def main(library, probe):
     compare_with_decoder(reader)
     compare_utf8(reader)
     compare_cesu8(cesu8_reader)
-    compare_fixed(probe)
+    compare_step_lines(probe)
     compare_utf8_steps(reader, probe)
     compare_cesu8_steps(cesu8_reader, probe)
     return total(f'{waited} of them where CPython waits after ED A0..BF')
