@@ -7,9 +7,9 @@ import codecs
 import itertools
 import sys
 
-from peer import (LAST, SHOW, STRICT, SURRO, Library, answer_of, below, code_blocks, code_lists, compare, compare_refused,
-                  compare_runs, damage, damaged, packed, random_strings, random_text, read_in_pieces, record_of,
-                  short_strings, step_on, step_take, total, wide)
+from peer import (LAST, SHOW, STRICT, SURRO, Library, answer_of, bad_length, below, code_blocks, code_lists, compare,
+                  compare_refused, compare_runs, damage, damaged, packed, random_strings, random_text, read_in_pieces,
+                  record_of, short_strings, step_on, step_take, total, wide)
 
 READER_FLAGS = [flags for flags in range(16) if flags & (STRICT | SHOW) != STRICT | SHOW]
 WRITER_FLAGS = range(8)
@@ -36,17 +36,6 @@ def surrogate_or(other):
         except UnicodeDecodeError:
             return other(error)
     return handle
-
-
-def surrogate_begins(data):
-    """ED A0..BF, which CPython's 'surrogatepass' takes for bad after ED unless the third byte is there: with SURRO it begins a sequence."""
-    return data[:1] == b'\xED' and 0xA0 <= (data + b'\0')[1] <= 0xBF
-
-
-def bad_length(error, flags):
-    if flags & SURRO and surrogate_begins(error.object[error.start:]):
-        return 2
-    return error.end - error.start
 
 
 def mark_subpart(error):

@@ -12,8 +12,8 @@ import functools
 import itertools
 import sys
 
-from peer import (LAST, SHOW, STRICT, SURRO, Library, Run, answer_of, below, compare, compare_runs, damage, of_pieces,
-                  packed, pending, record_of, step_take, texts, total, wide)
+from peer import (LAST, SHOW, STRICT, SURRO, Library, Run, answer_of, bad_length, below, compare, compare_runs,
+                  damage, of_pieces, packed, pending, record_of, step_take, surrogate_begins, texts, total, wide)
 
 ERRORS = {0: 'surrogateescape', SHOW: 'replace', STRICT: 'strict', STRICT | SURRO: 'surrogatepass'}
 PEER_FLAGS = [flags | last for flags in ERRORS for last in (0, LAST)]
@@ -164,10 +164,6 @@ def read_in_all(reader, packets, flags):
 
 # CPython's side of the reader.
 
-def surrogate_begins(data):
-    return data[:1] == b'\xED' and b'\xA0' <= data[1:2] <= b'\xBF'
-
-
 class Decoder:
     """CPython's incremental decoder."""
 
@@ -187,10 +183,6 @@ class Decoder:
         waited += 1
         return b'', held.decode('utf-8', self.errors)
 
-    def bad_length(self, error):
-        """With SURRO, ED A0..BF begins a sequence; for 'surrogatepass' only ED is bad."""
-        return 2 if self.surro and surrogate_begins(error.object[error.start:]) else error.end - error.start
-
     def read(self, packet, last):
         """As a call of the entry tells it that is given what was unread, and the packet."""
         given, known, text = len(self.unread + packet), len(self.ahead), ''
@@ -200,7 +192,7 @@ class Decoder:
         except UnicodeDecodeError as error:
             text += error.object[:error.start].decode('utf-8', self.errors)
             place = given - len(error.object) + error.start
-            return answer_of(len(text), True), place, self.bad_length(error), wide(text)
+            return answer_of(len(text), True), place, bad_length(error, self.surro), wide(text)
         text = (text + self.ahead)[known:]
         return len(text), given - len(self.unread), 0, wide(text)
 

@@ -100,6 +100,17 @@ def answer_of(items, bad):
     return -1 if bad and items == 0 else items
 
 
+def surrogate_begins(data):
+    """ED A0..BF. With SURRO it begins a sequence; for CPython's 'surrogatepass' it does so only where the third byte is
+    there, and else ED alone is bad."""
+    return data[:1] == b'\xED' and b'\xA0' <= data[1:2] <= b'\xBF'
+
+
+def bad_length(error, flags):
+    """Of the stretch that CPython's decoder calls bad."""
+    return 2 if flags & SURRO and surrogate_begins(error.object[error.start:]) else error.end - error.start
+
+
 def piece_length():
     return below(100 if below(4) else 4000)
 
