@@ -1,3 +1,4 @@
 pub mod Reading
+pub mod Come
 pub mod Stops
 pub mod Stands

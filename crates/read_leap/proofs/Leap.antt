@@ -1,0 +1,81 @@
+-- The pieces of a leap are parts of a reading. Assumes nothing.
+use mathlib.Core.Path.{_≡_, refl, sym, ap, _∙_}
+use mathlib.Core.Logic.{_⊎_, inl, inr}
+use mathlib.Core.Bool.{false}
+use mathlib.Core.List.{List, [], _∷_}
+use Prim.Native.Nat.{ℕ, zero, suc, _+_, _*_, _≤_, _<_}
+use native.Mathlib.Nat.{suc-mul}
+use native.Mathlib.Decide.{decLt}
+use native.Mathlib.Omega.{arith}
+use lib.ListN.{length, getD, drop}
+use lib.Seq.{drop-cons}
+use Rattle.flags.specs.declared.Flags.{Flags}
+use Rattle.form.specs.Table.{plain, surro, cesu}
+use Rattle.form.specs.Scan.{well, bad, scan}
+use Rattle.form.specs.Text.{escape}
+use Rattle.forms.specs.declared.Form.{Form}
+use Rattle.forms.specs.declared.Form.the-variants.{Plain, Surro, Cesu}
+use Rattle.forms.specs.Forms.{rowsOf}
+use Rattle.straight.specs.Straight.{straightOf}
+use Rattle.straight.proofs.Laws.{ascii-scan, stray-scan, sure-bad}
+use Rattle.readings.specs.Reading.{convert, turn}
+use Rattle.readings.specs.Come.{Come, single, Singles}
+use Rattle.readings.proofs.Come.{Layout, converts-one, single-ascii, single-escape, come-start, singles-room, singles-come, turn-well, turn-bad}
+use Rattle.read_leap.specs.Leap.{Sequenced, Strays}
+
+-- a sequence is not found in no bytes
+nothing : (f : Form) (c k : ℕ) → scan (rowsOf f) [] ≡ well c k → ⊥
+unfolding plain surro cesu
+nothing Plain c k e = let z : _≡_ {A = ℕ} 0 1 = cc in omega arith
+nothing Surro c k e = let z : _≡_ {A = ℕ} 0 1 = cc in omega arith
+nothing Cesu c k e = let z : _≡_ {A = ℕ} 0 1 = cc in omega arith
+
+module _ (f : Form) (m : Flags) where
+  turn-ascii : (b : ℕ) (t : List ℕ) → b < 0x80 → turn (rowsOf f) m (b ∷ t) ≡ convert (single b) 1
+  turn-ascii b t h = rw (single-ascii b h) (turn-well (rowsOf f) m b t b 1 (ascii-scan f b t h))
+
+  turn-sequence : (s : List ℕ) (c k : ℕ) → scan (rowsOf f) s ≡ well c k → turn (rowsOf f) m s ≡ convert c k
+  turn-sequence [] c k e = absurd (nothing f c k e)
+  turn-sequence (b ∷ t) c k e = turn-well (rowsOf f) m b t c k e
+
+  module _ (p : m .strict ≡ false) (q : m .show ≡ false) where
+    turn-single : (b : ℕ) (t : List ℕ) → b < 0xC2 → turn (rowsOf f) m (b ∷ t) ≡ convert (single b) 1
+    turn-single b t h = go (decLt b 0x80)
+      where
+        go : Dec (b < 0x80) → turn (rowsOf f) m (b ∷ t) ≡ convert (single b) 1
+        go (yes l) = turn-ascii b t l
+        go (no l) = let (n, e) = stray-scan f b t (omega arith) h in rw (single-escape b (omega arith)) (turn-bad (rowsOf f) m b t n p q e)
+
+    turn-first : (b : ℕ) (t : List ℕ) → (b ≡ 0xED → ⊥) → 4 ≤ length (b ∷ t) → straightOf (scan (rowsOf f) (b ∷ t)) .len ≡ 0 → turn (rowsOf f) m (b ∷ t) ≡ convert (single b) 1
+    turn-first b t g l z = go (decLt b 0x80)
+      where
+        go : Dec (b < 0x80) → turn (rowsOf f) m (b ∷ t) ≡ convert (single b) 1
+        go (yes h) = turn-ascii b t h
+        go (no h) = let (n, e) = sure-bad f b t g l z in rw (single-escape b (omega arith)) (turn-bad (rowsOf f) m b t n p q e)
+
+  module _ {lay : List ℕ → List ℕ} {w : ℕ} (L : Layout lay w) (s d₀ d : List ℕ) (r : ℕ) where
+    pub ascii-come : Singles lay 0x80 0 s d₀ d r → Come lay (rowsOf f) m s d₀ d r r
+    ascii-come S = singles-come L S turn-ascii (λ j g h. absurd (omega arith))
+
+    pub sequenced-come : Sequenced lay w (rowsOf f) s d₀ d r → (r ≡ 0 → ⊥) → Come lay (rowsOf f) m s d₀ d r 1
+    sequenced-come (inl (e, o, z)) g = absurd (g e)
+    sequenced-come (inr (h, (c, e, F))) g =
+        record { codes = c ∷ []; count = refl; converts = converts-one (rowsOf f) m s c r (turn-sequence s c r e); filled = F }
+
+    pub sequenced-none : Sequenced lay w (rowsOf f) s d₀ d r → r ≡ 0 → (d ≡ d₀) × (w ≤ length d₀ → straightOf (scan (rowsOf f) s) .len ≡ 0)
+    sequenced-none (inl (e, o, z)) g = (o, z)
+    sequenced-none (inr (h, o)) g = absurd (omega arith)
+
+    pub strays-come : m .strict ≡ false → m .show ≡ false → (w ≤ length d₀ → straightOf (scan (rowsOf f) s) .len ≡ 0) → Strays lay s d₀ d r → Come lay (rowsOf f) m s d₀ d r r
+    strays-come p q z (inl (e, o)) = rw (e, o) (come-start L (rowsOf f) m s d₀)
+    strays-come p q z (inr (h, g, S)) = singles-come L S (turn-single p q) first
+      where
+        room : (r : ℕ) → 0 < r → r * w ≤ length d₀ → w ≤ length d₀
+        room zero l k = absurd (omega arith)
+        room (suc r) l k = omega (arith, suc-mul r w)
+
+        first : (j : ℕ) → j < 1 → j < r → turn (rowsOf f) m (drop j s) ≡ convert (single (getD s j 0)) 1
+        first j l k =
+            let e : j ≡ 0 = omega arith in
+            let c = drop-cons s 0 0 (omega arith) in
+            rw (e, c) (turn-first p q (getD s 0 0) (drop 1 s) g (rw c at h) (rw c at (z (room r (omega arith) (singles-room L S)))))
