@@ -2,15 +2,19 @@
 use codings::Coding;
 use decode::Decoded;
 use encode::Encoded;
+use flags::Flags;
+use forms::Form;
 ghost use mathlib.Core.Path.{_≡_};
 ghost use mathlib.Core.List.{_++_};
 ghost use Prim.Native.Nat.{_+_, _*_, _/_, _≤_, min};
 ghost use lib.ListN.{length, take, drop};
-ghost use Rattle.readings.specs.Reading.{decoding-in};
+ghost use Rattle.forms.specs.Forms.{rowsOf};
+ghost use Rattle.readings.specs.Reading.{reading, decoding-in};
 ghost use Rattle.reader.specs.Decoded.{decodedOf};
 ghost use Rattle.writings.specs.Writing.{encoding-in};
 ghost use Rattle.writer.specs.Encoded.{encodedOf};
 ghost use Rattle.numbers.specs.Number.{low-first, over};
+ghost use Rattle.numbers.specs.Filled.{Filled};
 ghost use Rattle.packed.specs.Bytes.{laid, codesOf};
 
 // The codes in a stretch.
@@ -45,16 +49,6 @@ fn code(a: u8, b: u8, c: u8, d: u8) -> u32
     a as u32 + 256 * (b as u32 + 256 * (c as u32 + 256 * d as u32))
 }
 
-// Codes to the front of a buffer.
-fn lay(codes: &[u32], out: &mut [u8])
-    requires { ⌜ length (now codes) * 4 ≤ length (now out) ⌝ }
-    ensures { λ _. ⌜ now (out .exit) ≡ over (laid (now (codes .entry))) (now (out .entry)) ⌝ }
-{
-    for i in 0..codes.len() {
-        put(out, i * 4, codes[i]);
-    }
-}
-
 // Codes from the front of a buffer, as many as there is room for.
 fn gather(s: &[u8], codes: &mut [u32])
     requires { ⌜ length (now codes) * 4 ≤ length (now s) ⌝ }
@@ -66,29 +60,53 @@ fn gather(s: &[u8], codes: &mut [u32])
     }
 }
 
-fn decode_stretch(coding: Coding, src: &[u8], codes: &mut [u8], flags: u32) -> Decoded
-    ensures answer { λ r. ⌜ r ≡ decodedOf (decoding-in coding flags (min (length (now (codes .entry)) / 4) 256) (now (src .entry))) ⌝ }
-    ensures output { λ _. ⌜ now (codes .exit) ≡ over (laid (decoding-in coding flags (min (length (now (codes .entry)) / 4) 256) (now (src .entry)) .codes)) (now (codes .entry)) ⌝ }
+// One item of what is left, through a local array for one code.
+fn read_one(form: Form, m: Flags, src: &[u8], codes: &mut [u8]) -> Decoded
+    ensures answer { λ r. ⌜ r ≡ decodedOf (reading (rowsOf form) m (min (length (now (codes .entry)) / 4) 1) (now (src .entry))) ⌝ }
+    ensures output { λ _. ⌜ Filled (now (codes .entry)) (now (codes .exit)) (laid (reading (rowsOf form) m (min (length (now (codes .entry)) / 4) 1) (now (src .entry)) .codes)) ⌝ }
 {
-    let mut some = stretch();
-    let room = lesser(codes.len() / 4, STRETCH);
-    let r = decode::decode_in(coding, src, &mut some[..room], flags);
-    let n = r.produced;
-    lay(&some[..n], codes);
+    let mut one: [u32; 1] = [0];
+    let room = lesser(codes.len() / 4, 1);
+    let r = reader::read_as(form, m, src, &mut one[..room]);
+    if r.produced == 0 {
+        return r;
+    }
+    put(codes, 0, one[0]);
     r
 }
 
-// The reader in a coding, stretch after stretch, until it stops for anything but room or the whole room is full.
+// The reader in a coding: a leap, and then an item by the reader's own loop, until that stops for anything but room or the whole room is full.
 pub fn decode_packed(coding: Coding, src: &[u8], codes: &mut [u8], flags: u32) -> Decoded
     ensures answer { λ r. ⌜ r ≡ decodedOf (decoding-in coding flags (length (now (codes .entry)) / 4) (now (src .entry))) ⌝ }
     ensures output { λ _. ⌜ now (codes .exit) ≡ over (laid (decoding-in coding flags (length (now (codes .entry)) / 4) (now (src .entry)) .codes)) (now (codes .entry)) ⌝ }
 {
+    if codings::reader_refuses_in(coding, flags) {
+        return Decoded {
+            number: 4,
+            consumed: 0,
+            produced: 0,
+            subpart: 0,
+        };
+    }
+    let m = flags::flags_of(flags);
+    let form = codings::reader_form(coding, m);
     let room = codes.len() / 4;
     let mut at: usize = 0;
     let mut n: usize = 0;
     loop {
+        let l = read_leap_packed::leap(form, m, src, at, codes, n);
+        at = l.at;
+        n = l.n;
+        if at == src.len() {
+            return Decoded {
+                number: 0,
+                consumed: at,
+                produced: n,
+                subpart: 0,
+            };
+        }
         let from = n * 4;
-        let r = decode_stretch(coding, &src[at..], &mut codes[from..], flags);
+        let r = read_one(form, m, &src[at..], &mut codes[from..]);
         at += r.consumed;
         n += r.produced;
         if r.number != 1 {

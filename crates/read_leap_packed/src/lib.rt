@@ -185,14 +185,7 @@ fn careful(m: Flags) -> bool
 
 // From one place to another: runs of ASCII, sequences, and without STRICT and SHOW bad bytes. What is left for care are the last bytes, where a sequence may
 // be cut, what STRICT and SHOW ask for, and surrogate pairs.
-pub fn leap(
-    form: Form,
-    m: Flags,
-    s: &[u8],
-    start: usize,
-    codes: &mut [u8],
-    begun: usize,
-) -> Leapt
+pub fn leap(form: Form, m: Flags, s: &[u8], start: usize, codes: &mut [u8], begun: usize) -> Leapt
     ensures { λ r. ⌜ Onward (laid-in 4) (rowsOf form) m (now (s .entry)) (now (codes .entry)) (now (codes .exit)) start begun (r .at) (r .n) ⌝ }
 {
     let mut at = start;
