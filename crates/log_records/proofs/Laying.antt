@@ -9,7 +9,8 @@ use borrow.Rule.Slice.PartMut.{midOf, putMid, mid-len}
 use Rattle.item.proofs.Here.{Step}
 use Rattle.numbers.specs.Number.{low-first, laid-in, over}
 use Rattle.numbers.proofs.Laws.{low-length, laid-length, laid-append}
-use Rattle.numbers.proofs.Filled.{Filled, filled-none, filled-same, filled-next}
+use Rattle.numbers.specs.Filled.{Filled}
+use Rattle.numbers.proofs.Filled.{filled-none, filled-same, filled-next}
 use Rattle.log_index.specs.Index.{starts, every}
 use Rattle.log_records.proofs.Walk.{Reached, reached-start, reached-pass, reached-record, reached-end}
 

@@ -13,7 +13,8 @@ use borrow.Author.Tests.{lt-ltb, le-ltb, le-leb, lt-leb, leb-true, leb-false}
 use Rattle.form.specs.Text.{All}
 use Rattle.numbers.specs.Number.{laid-in, values-in, over, Octets}
 use Rattle.numbers.proofs.Laws.{laid-length, laid-append, values-length, values-take, laid-values}
-use Rattle.numbers.proofs.Filled.{Filled, filled-part, filled-more}
+use Rattle.numbers.specs.Filled.{Filled}
+use Rattle.numbers.proofs.Filled.{filled-part, filled-more}
 use Rattle.log_index.specs.Index.{starts, every, onward}
 use Rattle.log_index.specs.Update.{standing, resumed, updated, Indexing, fitting, updating}
 use Rattle.log_index.proofs.Starts.{starts-some}

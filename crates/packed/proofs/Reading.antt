@@ -18,9 +18,10 @@ use Rattle.reader.specs.Decoded.{decodedOf}
 use Rattle.readings.proofs.Readings.{follow-follow, follow-none}
 use Rattle.readings.proofs.Theorems.{resume, within, full-up, more-room}
 use Rattle.numbers.specs.Number.{over}
-use Rattle.packed.specs.Bytes.{laid}
+use Rattle.quads.specs.Bytes.{laid}
 use Rattle.numbers.proofs.Laws.{laid-length, laid-append}
-use Rattle.numbers.proofs.Filled.{Filled, filled-none, filled-same, filled-part, filled-more}
+use Rattle.numbers.specs.Filled.{Filled}
+use Rattle.numbers.proofs.Filled.{filled-none, filled-same, filled-part, filled-more}
 
 -- n codes are given, and `at` bytes consumed
 pub record Reads (K : Coding) (f : ℕ) (s d₀ d : List ℕ) (at n : ℕ) : Type 0 where
