@@ -9,7 +9,7 @@ use Rattle.codings.specs.declared.Coding.{Coding}
 use Rattle.readings.specs.Reading.{decoding-in}
 use Rattle.writings.specs.Writing.{encoding-in}
 use Rattle.numbers.specs.Number.{low-first, over}
-use Rattle.packed.specs.Bytes.{laid, codesOf}
+use Rattle.quads.specs.Bytes.{laid, codesOf}
 use Rattle.entries.specs.Entry.{entry, answerOf, given, decode-entry-in, encode-entry-in}
 
 -- the count fills all of the report, and the length goes over its last byte

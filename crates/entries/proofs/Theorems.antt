@@ -14,7 +14,7 @@ use Rattle.readings.proofs.Theorems.{none-consumed, refuses-strict}
 use Rattle.writings.specs.Writing.{encoding-in}
 use Rattle.writings.proofs.Theorems as Writer
 use Rattle.numbers.specs.Number.{low-first}
-use Rattle.packed.specs.Bytes.{laid, codesOf}
+use Rattle.quads.specs.Bytes.{laid, codesOf}
 use Rattle.entries.specs.Entry.{Entry, given, refused, is-report, in-limit, decode-entry-in, encode-entry-in}
 
 abbrev minus-one : ℤ

@@ -10,7 +10,7 @@ use Rattle.codings.specs.declared.Coding.the-variants.{Utf8}
 use Rattle.readings.specs.Reading.{decoding-in}
 use Rattle.writings.specs.Writing.{encoding-in}
 use Rattle.numbers.specs.Number.{low-first, over}
-use Rattle.packed.specs.Bytes.{laid, codesOf}
+use Rattle.quads.specs.Bytes.{laid, codesOf}
 
 -- the answer, and the output and the report at exit
 pub record Entry : Type 0 where

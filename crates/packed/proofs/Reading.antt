@@ -22,7 +22,7 @@ use Rattle.readings.proofs.Come.{Layout}
 use Rattle.reader.specs.declared.Decoded.{Decoded}
 use Rattle.reader.specs.Decoded.{decodedOf}
 use Rattle.reader.proofs.Onward.{Answers}
-use Rattle.packed.specs.Bytes.{laid}
+use Rattle.quads.specs.Bytes.{laid}
 
 pub four-bytes : Layout laid 4
 four-bytes = record { empty = refl; lengths = laid-length 4; joins = laid-append 4 }

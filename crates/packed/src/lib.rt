@@ -1,31 +1,21 @@
-// The reader and the writer over packed codes: four bytes each, low byte first. The codes go through a small local array in stretches.
+// The reader and the writer over packed codes: four bytes each, low byte first.
 use codings::Coding;
-use decode::Decoded;
-use encode::Encoded;
 use flags::Flags;
 use forms::Form;
+use reader::Decoded;
+use writer::Encoded;
 ghost use mathlib.Core.Path.{_≡_};
 ghost use mathlib.Core.List.{_++_};
 ghost use Prim.Native.Nat.{_+_, _*_, _/_, _≤_, min};
 ghost use lib.ListN.{length, take, drop};
-ghost use Rattle.forms.specs.Forms.{rowsOf};
 ghost use Rattle.readings.specs.Reading.{reading, decoding-in};
 ghost use Rattle.reader.specs.Decoded.{decodedOf};
-ghost use Rattle.writings.specs.Writing.{encoding-in};
+ghost use Rattle.forms.specs.Forms.{rowsOf};
+ghost use Rattle.writings.specs.Writing.{writing, encoding-in};
 ghost use Rattle.writer.specs.Encoded.{encodedOf};
 ghost use Rattle.numbers.specs.Number.{low-first, over};
 ghost use Rattle.numbers.specs.Filled.{Filled};
-ghost use Rattle.packed.specs.Bytes.{laid, codesOf};
-
-// The codes in a stretch.
-const STRETCH: usize = 256;
-
-// A local array for a stretch.
-fn stretch() -> [u32; STRETCH]
-    ensures { λ r. ⌜ length r ≡ 256 ⌝ }
-{
-    [0; STRETCH]
-}
+ghost use Rattle.quads.specs.Bytes.{laid, codesOf};
 
 fn lesser(a: usize, b: usize) -> usize
     ensures { λ r. ⌜ r ≡ min a b ⌝ }
@@ -41,23 +31,6 @@ fn put(out: &mut [u8], at: usize, x: u32)
     out[at + 1] = (x / 256 % 256) as u8;
     out[at + 2] = (x / 256 / 256 % 256) as u8;
     out[at + 3] = (x / 256 / 256 / 256 % 256) as u8;
-}
-
-fn code(a: u8, b: u8, c: u8, d: u8) -> u32
-    ensures { λ r. ⌜ r ≡ a + 256 * (b + 256 * (c + 256 * d)) ⌝ }
-{
-    a as u32 + 256 * (b as u32 + 256 * (c as u32 + 256 * d as u32))
-}
-
-// Codes from the front of a buffer, as many as there is room for.
-fn gather(s: &[u8], codes: &mut [u32])
-    requires { ⌜ length (now codes) * 4 ≤ length (now s) ⌝ }
-    ensures { λ _. ⌜ now (codes .exit) ≡ take (length (now (codes .entry))) (codesOf (now (s .entry))) ⌝ }
-{
-    for i in 0..codes.len() {
-        let at = i * 4;
-        codes[i] = code(s[at], s[at + 1], s[at + 2], s[at + 3]);
-    }
 }
 
 // One item of what is left, through a local array for one code.
@@ -128,37 +101,55 @@ pub fn decode_packed(coding: Coding, src: &[u8], codes: &mut [u8], flags: u32) -
     }
 }
 
-fn encode_stretch(coding: Coding, codes: &[u8], dst: &mut [u8], flags: u32) -> Encoded
-    ensures answer { λ r. ⌜ r ≡ encodedOf (encoding-in coding flags (length (now (dst .entry))) (take 256 (codesOf (now (codes .entry))))) ⌝ }
-    ensures output { λ _. ⌜ now (dst .exit) ≡ over (encoding-in coding flags (length (now (dst .entry))) (take 256 (codesOf (now (codes .entry)))) .written) (now (dst .entry)) ⌝ }
+fn code(a: u8, b: u8, c: u8, d: u8) -> u32
+    ensures { λ r. ⌜ r ≡ a + 256 * (b + 256 * (c + 256 * d)) ⌝ }
 {
-    let mut some = stretch();
-    let n = lesser(codes.len() / 4, STRETCH);
-    gather(codes, &mut some[..n]);
-    encode::encode_in(coding, &some[..n], dst, flags)
+    a as u32 + 256 * (b as u32 + 256 * (c as u32 + 256 * d as u32))
 }
 
-// The writer in a coding, stretch after stretch, until it stops within one or no codes are left.
+// The writer for the first code, through a local array.
+fn write_one(form: Form, m: Flags, codes: &[u8], dst: &mut [u8]) -> Encoded
+    requires { ⌜ 4 ≤ length (now codes) ⌝ }
+    ensures answer { λ r. ⌜ r ≡ encodedOf (writing (rowsOf form) m (length (now (dst .entry))) (take 1 (codesOf (now (codes .entry))))) ⌝ }
+    ensures output { λ _. ⌜ now (dst .exit) ≡ over (writing (rowsOf form) m (length (now (dst .entry))) (take 1 (codesOf (now (codes .entry)))) .written) (now (dst .entry)) ⌝ }
+{
+    let one = [code(codes[0], codes[1], codes[2], codes[3])];
+    writer::write_as(form, m, &one, dst)
+}
+
+// The writer in a coding: leap after leap, and between them one code, until the writer stops there or no codes are left.
 pub fn encode_packed(coding: Coding, codes: &[u8], dst: &mut [u8], flags: u32) -> Encoded
     ensures answer { λ r. ⌜ r ≡ encodedOf (encoding-in coding flags (length (now (dst .entry))) (codesOf (now (codes .entry)))) ⌝ }
     ensures output { λ _. ⌜ now (dst .exit) ≡ over (encoding-in coding flags (length (now (dst .entry))) (codesOf (now (codes .entry))) .written) (now (dst .entry)) ⌝ }
 {
+    if codings::writer_refuses_in(coding, flags) {
+        return Encoded {
+            number: 4,
+            consumed: 0,
+            produced: 0,
+        };
+    }
+    let m = flags::flags_of(flags);
+    let form = codings::writer_form(coding);
     let count = codes.len() / 4;
     let mut at: usize = 0;
     let mut n: usize = 0;
     loop {
-        let from = at * 4;
-        let r = encode_stretch(coding, &codes[from..], &mut dst[n..], flags);
-        at += r.consumed;
-        n += r.produced;
-        if r.number != 0 {
+        let l = write_leap_packed::leap(form, m, codes, at, dst, n);
+        at = l.at;
+        n = l.n;
+        if at == count {
             return Encoded {
-                number: r.number,
+                number: 0,
                 consumed: at,
                 produced: n,
             };
         }
-        if at == count {
+        let from = at * 4;
+        let r = write_one(form, m, &codes[from..], &mut dst[n..]);
+        at += r.consumed;
+        n += r.produced;
+        if r.number != 0 {
             return Encoded {
                 number: r.number,
                 consumed: at,

@@ -11,10 +11,10 @@ use Rattle.codings.specs.Codings.{writer-form}
 use Rattle.readings.proofs.Theorems.{within, reads-all}
 use Rattle.writings.specs.Writing.{encoding-in}
 use Rattle.writings.proofs.Theorems.{encoding-write}
-use Rattle.packed.specs.Bytes.{laid, codesOf}
+use Rattle.quads.specs.Bytes.{laid, codesOf}
 use Rattle.entries.specs.Entry.{given, decode-entry-in, encode-entry-in}
 use Rattle.numbers.proofs.Laws.{laid-length}
-use Rattle.packed.proofs.Bytes.{laid-again}
+use Rattle.quads.proofs.Bytes.{laid-again}
 use Rattle.entries.proofs.Answers.{decode-given, encode-given}
 use Rattle.roundtrip.specs.Entries.{Buffer, Gives, Through}
 use Rattle.roundtrip.proofs.Holds.{lists, read-accepted}

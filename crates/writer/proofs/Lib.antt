@@ -1,2 +1,3 @@
 pub mod Offered
 pub mod Places
+pub mod Calls

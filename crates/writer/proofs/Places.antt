@@ -17,7 +17,8 @@ use Rattle.writings.specs.Writing.{bytes, Writing, stopped, after, writing}
 use Rattle.writer.specs.Encoded.{encodedOf}
 use Rattle.writings.proofs.Given.{given}
 use Rattle.writer.proofs.Offered.{Offered, none-refused, some-offered}
-use Rattle.writings.proofs.Turns.{writing-refused, writing-full, writing-on, follow, follow-after}
+use Rattle.writings.specs.Come.{follow}
+use Rattle.writings.proofs.Turns.{writing-refused, writing-full, writing-on, follow-after}
 
 -- ---- the loop has come to a place: `at` codes are consumed, and their n bytes stand at the front of the buffer d
 pub record Reached (F : Form) (m : Flags) (l d₀ d : List ℕ) (at n : ℕ) : Type 0 where

@@ -15,7 +15,7 @@ use Rattle.reader.specs.Decoded.{decodedOf}
 use Rattle.readings.proofs.Readings.{refused-nothing}
 use Rattle.readings.proofs.Theorems.{refused-exactly, within, subpart-few}
 use Rattle.numbers.specs.Number.{low-first}
-use Rattle.packed.specs.Bytes.{laid}
+use Rattle.quads.specs.Bytes.{laid}
 use Rattle.entries.specs.Entry.{answerOf, given, decode-entry-in}
 use Rattle.entries.proofs.Answers.{refuses, tells, decode-given}
 use Rattle.entries.proofs.decode_entry.Statement.{statement}

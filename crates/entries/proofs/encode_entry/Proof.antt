@@ -13,7 +13,7 @@ use Rattle.writings.specs.Writing.{Writing, encoding-in}
 use Rattle.writer.specs.Encoded.{encodedOf}
 use Rattle.writings.proofs.Theorems.{refused-nothing, within}
 use Rattle.numbers.specs.Number.{low-first}
-use Rattle.packed.specs.Bytes.{codesOf}
+use Rattle.quads.specs.Bytes.{codesOf}
 use Rattle.entries.specs.Entry.{answerOf, given, encode-entry-in}
 use Rattle.entries.proofs.Answers.{refuses, tells, encode-given}
 use Rattle.entries.proofs.encode_entry.Statement.{statement}

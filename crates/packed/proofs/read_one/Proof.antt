@@ -11,7 +11,7 @@ use Rattle.numbers.specs.Filled.{Filled}
 use Rattle.numbers.proofs.Filled.{filled-none}
 use Rattle.readings.specs.Reading.{Reading, reading}
 use Rattle.reader.specs.Decoded.{decodedOf}
-use Rattle.packed.specs.Bytes.{laid}
+use Rattle.quads.specs.Bytes.{laid}
 use Rattle.packed.proofs.Reading.{One, one, put-first}
 use Rattle.packed.proofs.read_one.Statement.{statement}
 use Rattle.packed.proofs.read_one.Tie as tie

@@ -1,0 +1,1 @@
+// Codes as four bytes each, low byte first: definitions and laws alone.
