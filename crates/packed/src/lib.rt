@@ -1,9 +1,9 @@
 // The reader and the writer over packed codes: four bytes each, low byte first.
 use codings::Coding;
+use encode::Encoded;
 use flags::Flags;
 use forms::Form;
 use reader::Decoded;
-use writer::Encoded;
 ghost use mathlib.Core.Path.{_≡_};
 ghost use mathlib.Core.List.{_++_};
 ghost use Prim.Native.Nat.{_+_, _*_, _/_, _≤_, min};

@@ -4,15 +4,15 @@ use forms::Form;
 ghost use mathlib.Core.Path.{_≡_};
 ghost use mathlib.Core.Bool.{false};
 ghost use mathlib.Core.List.{_++_};
-ghost use Prim.Native.Nat.{_+_, _*_, _%_, _≤_, _<_, min};
+ghost use Prim.Native.Nat.{ℕ, _+_, _*_, _%_, _≤_, _<_, min};
 ghost use lib.ListN.{length, take, drop};
 ghost use Rattle.form.specs.Table.{Escape};
 ghost use Rattle.form.specs.Pattern.{pattern};
+ghost use Rattle.form.specs.Text.{sequence};
 ghost use Rattle.forms.specs.Forms.{rowsOf};
 ghost use Rattle.quads.specs.Bytes.{codesOf, quad};
 ghost use Rattle.writings.specs.Come.{Onward};
 ghost use Rattle.writings.specs.Singled.{Ascii, Single, Singled};
-ghost use Rattle.write_leap_packed.specs.Pairs.{has-pairs};
 
 fn lesser(a: usize, b: usize) -> usize
     ensures { λ r. ⌜ r ≡ min a b ⌝ }
@@ -194,8 +194,9 @@ fn careful(m: Flags) -> bool
     m.surro
 }
 
+// The form writes a code above FFFF as a pair of surrogates.
 fn has_pairs(form: Form) -> bool
-    ensures { λ r. ⌜ r ≡ has-pairs form ⌝ }
+    ensures { λ r. ⌜ (r ≡ false → (c : ℕ) → 0xFFFF < c → c ≤ 0x10FFFF → sequence (rowsOf form) c ≡ pattern c) ⌝ }
 {
     match form {
         Form::Plain => false,

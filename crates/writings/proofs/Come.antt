@@ -1,10 +1,10 @@
 -- The writer comes on from place to place, by bytes that are put and by lent parts of its buffers. Assumes nothing.
 use mathlib.Core.Path.{_≡_, refl, sym, ap, _∙_}
 use mathlib.Core.List.{List, [], _++_, append-nil, append-assoc}
-use Prim.Native.Nat.{ℕ, _+_, _-_, _≤_, _<_}
+use Prim.Native.Nat.{ℕ, _+_, _-_, _≤_}
 use native.Mathlib.Nat.{add-zero}
 use native.Mathlib.Omega.{arith}
-use lib.ListN.{length, take, drop, length-append, length-drop, length-take, take-append-drop}
+use lib.ListN.{length, take, drop, length-append, length-drop, take-append-drop}
 use lib.Seq.{drop-drop, drop-length, length-take-le}
 use borrow.Rule.Slice.PartAt.{part-to-end}
 use borrow.Rule.Slice.PartMut.{midOf, putMid, post-is}
@@ -14,7 +14,6 @@ use Rattle.numbers.specs.Number.{over}
 use Rattle.numbers.proofs.Filled.{filled-none, filled-same, filled-put}
 use Rattle.writings.specs.Writing.{Writing, stopped, writing}
 use Rattle.writings.specs.Come.{follow, Writes, Come, Onward}
-use Rattle.writings.proofs.Theorems.{writing-within, writing-used-up}
 use Rattle.writings.proofs.Writes.{writes-none, writes-trans, writes-stretch, ended-before}
 
 -- ---- bytes in a buffer

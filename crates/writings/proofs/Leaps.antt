@@ -1,8 +1,8 @@
 -- The bytes of the codes that need no second look: what a leap over them writes. Assumes nothing.
 use mathlib.Core.Path.{_≡_, refl, sym, ap, _∙_, subst}
-use mathlib.Core.Logic.{_⊎_, inl, inr, ⊎-elim}
+use mathlib.Core.Logic.{⊎-elim}
 use mathlib.Core.Bool.{false}
-use mathlib.Core.List.{List, [], _∷_, _++_, map}
+use mathlib.Core.List.{List, [], _∷_, _++_}
 use Prim.Native.Nat.{ℕ, zero, suc, _+_, _-_, _/_, _%_, _≤_, _<_}
 use native.Mathlib.Numerals.{add-one}
 use native.Mathlib.Omega.{arith}
@@ -23,7 +23,7 @@ use Rattle.writings.specs.Come.{Writes, Onward}
 use Rattle.writings.specs.Singled.{Ascii, Single, lows, Singled}
 use Rattle.writings.proofs.Given.{not-surrogate, not-refused, bytes-escape, bytes-other}
 use Rattle.writings.proofs.Writes.{writes-none, writes-one, writes-trans}
-use Rattle.writings.proofs.Come.{Put, put-lent, onward-more}
+use Rattle.writings.proofs.Come.{put-lent, onward-more}
 
 -- ---- the pattern of a code
 

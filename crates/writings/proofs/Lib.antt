@@ -5,3 +5,4 @@ pub mod Writes
 pub mod Stretches
 pub mod Come
 pub mod Leaps
+pub mod Leaping

@@ -1,16 +1,18 @@
 -- Four codes more at each turn. Assumes nothing.
-use mathlib.Core.Path.{_≡_, refl}
-use Prim.Native.Nat.{_+_, _-_, _*_, _≤_, _<_}
+use mathlib.Core.Path.{refl}
+use Prim.Native.Nat.{_+_, _-_, _*_, _≤_}
 use native.Mathlib.Omega.{arith}
 use lib.ListN.{length, length-set}
 use borrow.Author.Needs.{needs}
 use Rattle.writings.specs.Singled.{Ascii}
-use Rattle.write_leap_packed.proofs.Runs.{Run, run-start, run-same, run-four, run-next}
+use Rattle.quads.specs.Bytes.{codesOf}
+use Rattle.writings.proofs.Leaping.{Run, run-start, run-same, run-four, run-next}
+use Rattle.write_leap_packed.proofs.Codes.{bound-of, whole-at, code-of}
 use Rattle.write_leap_packed.proofs.blocks_out.Statement.{statement}
 use Rattle.write_leap_packed.proofs.blocks_out.Tie as tie
 
 abbrev Inv-blocks2 : tie.InvT-blocks2
-Inv-blocks2 codes dst₀ end n₀ dst n = Run Ascii codes dst₀ dst end n
+Inv-blocks2 codes dst₀ end n₀ dst n = Run Ascii (codesOf codes) dst₀ dst end n
 
 abbrev μ-blocks2 : tie.MeasureT-blocks2
 μ-blocks2 codes dst₀ end n₀ dst n = end - n
@@ -22,7 +24,9 @@ abbrev start : Turn → tie.Start Inv-blocks2 μ-blocks2
 start c = c .before .before .before .before .before
 
 four : (c : Turn) → (c .before .blocks2 .n * 4 + 16 ≤ length (start c .args .codes .now)) × (c .before .blocks2 .n + 4 ≤ length (c .before .blocks2 .dst))
-four c = run-four (c .before .blocks2 .inv) (omega (arith, c .blocks2-test .left))
+four c =
+    let (h, g) = run-four (c .before .blocks2 .inv) (omega (arith, c .blocks2-test .left)) in
+    (omega (arith, whole-at (start c .args .codes .now) (c .before .blocks2 .n + 3) (omega arith)), g)
 
 -- where the four are ASCII
 abbrev place : tie.After-low Inv-blocks2 μ-blocks2 → Turn
@@ -37,10 +41,12 @@ blocks2-again c =
     let n = p .before .blocks2 .n in
     let t = p .blocks2-test .left in
     let r = p .before .blocks2 .inv in
-    let r1 = run-next r _ _ (n + 1) (n * 4) refl refl (omega (arith, r .within)) (w .before .before .before .code-at .ensures) (h .0) (c .before .before .before .low .ensures) in
-    let r2 = run-next r1 _ _ (n + 2) (n * 4 + 4) (omega arith) (omega arith) (omega (arith, r .within)) (w .before .before .code-at2 .ensures) (h .1 .0) (c .before .before .low2 .ensures) in
-    let r3 = run-next r2 _ _ (n + 3) (n * 4 + 8) (omega arith) (omega arith) (omega (arith, r .within)) (w .before .code-at3 .ensures) (h .1 .1 .0) (c .before .low3 .ensures) in
-    run-next r3 _ _ (n + 4) (n * 4 + 12) (omega arith) (omega arith) (omega (arith, r .within)) (w .code-at4 .ensures) (h .1 .1 .1) (c .low4 .ensures)
+    let s = start p .args .codes .now in
+    let h4 = run-four r (omega (arith, t)) .0 in
+    let r1 = run-next r _ _ (n + 1) refl (omega (arith, r .within)) (code-of s n (n * 4) _ refl (omega (arith, h4)) (w .before .before .before .code-at .ensures)) (h .0) (c .before .before .before .low .ensures) in
+    let r2 = run-next r1 _ _ (n + 2) (omega arith) (omega (arith, r .within)) (code-of s (n + 1) (n * 4 + 4) _ (omega arith) (omega (arith, h4)) (w .before .before .code-at2 .ensures)) (h .1 .0) (c .before .before .low2 .ensures) in
+    let r3 = run-next r2 _ _ (n + 3) (omega arith) (omega (arith, r .within)) (code-of s (n + 2) (n * 4 + 8) _ (omega arith) (omega (arith, h4)) (w .before .code-at3 .ensures)) (h .1 .1 .0) (c .before .low3 .ensures) in
+    run-next r3 _ _ (n + 4) (omega arith) (omega (arith, r .within)) (code-of s (n + 3) (n * 4 + 12) _ (omega arith) (omega (arith, h4)) (w .code-at4 .ensures)) (h .1 .1 .1) (c .low4 .ensures)
 
 pub blocks-out-spec : {M : Type 1} → statement M
 blocks-out-spec =
@@ -49,7 +55,7 @@ blocks-out-spec =
     Inv-blocks2
     μ-blocks2
     (λ c κs. search needs)
-    (λ c. run-start _ _ _ _ (c .lesser .ensures))
+    (λ c. run-start _ _ _ _ (bound-of (c .before .before .before .args .codes .now) _ _ (c .lesser .ensures)))
     (λ c. c .blocks2 .inv .within)
     (λ c. omega (arith, four c .0))
     (λ c κs. omega (arith, four c .0))

@@ -1,21 +1,24 @@
 -- Each turn goes from a place to the next. Assumes nothing.
-use mathlib.Core.Path.{_≡_, sym, ap, _∙_}
+use mathlib.Core.Path.{_≡_, refl, ap}
 use mathlib.Core.Bool.{false}
 use mathlib.Core.List.{List}
-use Prim.Native.Nat.{ℕ, _+_, _-_, _/_, _≤_, _<_}
+use Prim.Native.Nat.{ℕ, _+_, _-_, _*_, _/_, _≤_, _<_}
 use native.Mathlib.Omega.{arith}
-use lib.ListN.{length, set, length-set}
+use lib.ListN.{length, getD, set, take, drop, length-set}
 use Rattle.forms.specs.Forms.{rowsOf}
 use Rattle.forms.proofs.Forms.{form-writer}
 use Rattle.writings.specs.Singled.{Ascii, Single}
 use Rattle.writings.proofs.Come.{onward-start}
 use Rattle.writings.proofs.Leaps.{pattern-two, pattern-three, pattern-four, writes-ascii, writes-escape, writes-single}
-use Rattle.write_leap_packed.proofs.Leaping.{Leaping, leaping-start, leaping-one, leaping-short, leaping-long, run-within, leaping-run}
+use Rattle.quads.specs.Bytes.{codesOf}
+use Rattle.quads.proofs.Bytes.{codes-length}
+use Rattle.writings.proofs.Leaping.{Leaping, leaping-start, leaping-one, leaping-short, leaping-long, leapt-within, leaping-run}
+use Rattle.write_leap_packed.proofs.Codes.{whole-at, code-of, codes-lent}
 use Rattle.write_leap_packed.proofs.leap.Statement.{statement}
 use Rattle.write_leap_packed.proofs.leap.Tie as tie
 
 abbrev Inv-codes : tie.InvT-codes
-Inv-codes form m codes start dst₀ begun at₀ n₀ count dst at n = Leaping form m codes dst₀ dst start begun at n
+Inv-codes form m codes start dst₀ begun at₀ n₀ count dst at n = Leaping (rowsOf form) m (codesOf codes) dst₀ dst start begun at n
 
 abbrev μ-codes : tie.MeasureT-codes
 μ-codes form m codes start dst₀ begun at₀ n₀ count dst at n = length codes / 4 - at
@@ -35,8 +38,12 @@ module _ (p : Place) where
   abbrev n : ℕ
   n = p .before .before .codes .n
 
-  some : at < length (begin p .args .codes .now) / 4
-  some = omega (arith, p .before .codes-test .left)
+  some : at < length (codesOf (begin p .args .codes .now))
+  some = omega (arith, p .before .codes-test .left, codes-length (begin p .args .codes .now))
+
+  -- its bytes
+  whole : at * 4 + 4 ≤ length (begin p .args .codes .now)
+  whole = whole-at (begin p .args .codes .now) at some
 
   four : n + 4 ≤ length (p .before .before .codes .dst)
   four = omega (arith, p .if2 .left, p .before .before .codes .inv .room)
@@ -45,12 +52,15 @@ module _ (p : Place) where
 abbrev Code : Type 0
 Code = tie.After-code-at Inv-codes μ-codes
 
+is-code : (d : Code) → d .code-at .result ≡ getD (codesOf (begin (d .before) .args .codes .now)) (at (d .before)) 0
+is-code d = code-of (begin (d .before) .args .codes .now) (at (d .before)) _ _ refl (some (d .before)) (d .code-at .ensures)
+
 -- a place further on
 abbrev Further : (d : Code) → List ℕ → ℕ → Type 0
 Further d l k =
     let p = d .before in
     let a = begin p .args in
-    Leaping (a .form) (a .m) (a .codes .now) (a .dst .now) l (a .start) (a .begun) (at p + 1) (n p + k)
+    Leaping (rowsOf (a .form)) (a .m) (codesOf (a .codes .now)) (a .dst .now) l (a .start) (a .begun) (at p + 1) (n p + k)
 
 -- ---- ASCII
 
@@ -62,28 +72,32 @@ first c =
     let d = low-at c in
     let p = d .before in
     let a = begin p .args in
-    leaping-one (p .before .before .codes .inv) (d .code-at .result) (some p) (d .code-at .ensures) (c .low .result) (c .low .ensures)
+    leaping-one (p .before .before .codes .inv) (d .code-at .result) (some p) (is-code d) (c .low .result) (c .low .ensures)
     (λ t. writes-ascii (rowsOf (a .form)) (form-writer (a .form)) (a .m) (d .code-at .result) t (c .before .if3 .taken)) (omega (arith, four p))
 
 abbrev run-at : tie.After-slice-known2 Inv-codes μ-codes → tie.After-low Inv-codes μ-codes
 run-at c = c .before .before .before .before .before
 
-next : (p : Place) → at p + 1 ≤ length (begin p .args .codes .now) / 4
+next : (p : Place) → at p + 1 ≤ length (codesOf (begin p .args .codes .now))
 next p = omega (arith, some p)
 
+lent : (p : Place)
+    → codesOf (take (length (begin p .args .codes .now) - (at p + 1) * 4) (drop ((at p + 1) * 4) (begin p .args .codes .now))) ≡ drop (at p + 1) (codesOf (begin p .args .codes .now))
+lent p = codes-lent (begin p .args .codes .now) (at p + 1)
+
 run : (c : tie.After-slice-known2 Inv-codes μ-codes)
-    → (at (low-at (run-at c) .before) + 1 + c .before .before .run-out .result ≤ length (begin (low-at (run-at c) .before) .args .codes .now) / 4)
+    → (at (low-at (run-at c) .before) + 1 + c .before .before .run-out .result ≤ length (codesOf (begin (low-at (run-at c) .before) .args .codes .now)))
     × (n (low-at (run-at c) .before) + 1 + c .before .before .run-out .result ≤ length (low-at (run-at c) .before .before .before .codes .dst))
 run c =
     let l = run-at c in
-    let (h, g) = run-within (first l) Ascii _ _ (next (low-at l .before)) (c .before .before .run-out .ensures) in
+    let (h, g) = leapt-within (first l) Ascii _ _ _ (next (low-at l .before)) (lent (low-at l .before)) (c .before .before .run-out .ensures) in
     (h, omega (arith, g, length-set (low-at l .before .before .before .codes .dst) (n (low-at l .before)) (l .low .result)))
 
 codes-again : tie.Need-codes-again Inv-codes μ-codes
 codes-again c =
     let l = run-at c in
     let a = begin (low-at l .before) .args in
-    leaping-run (first l) Ascii _ _ (next (low-at l .before)) (c .before .before .run-out .ensures) (writes-ascii (rowsOf (a .form)) (form-writer (a .form)) (a .m))
+    leaping-run (first l) Ascii _ _ _ (next (low-at l .before)) (lent (low-at l .before)) (c .before .before .run-out .ensures) (writes-ascii (rowsOf (a .form)) (form-writer (a .form)) (a .m))
 
 -- ---- two to four bytes
 
@@ -92,7 +106,7 @@ codes-again-2 c =
     let d = c .before .before .before .before .before .before in
     let x = d .code-at .result in
     let p = d .before in
-    leaping-short (p .before .before .codes .inv) x (some p) (d .code-at .ensures) _ 2 (omega (arith, c .before .before .before .before .if4 .taken)) (λ u. omega (arith, c .before .before .before .before .if4 .taken))
+    leaping-short (p .before .before .codes .inv) x (some p) (is-code d) (form-writer (begin p .args .form)) _ 2 (omega (arith, c .before .before .before .before .if4 .taken)) (λ u. omega (arith, c .before .before .before .before .if4 .taken))
     (ap length (pattern-two x (omega (arith, c .before .before .before .before .before .if3 .left)) (omega (arith, c .before .before .before .before .if4 .taken)))) (omega (arith, four p)) (c .before .before .put2 .ensures)
 
 codes-again-3 : tie.Need-codes-again-3 Inv-codes μ-codes
@@ -100,7 +114,7 @@ codes-again-3 c =
     let d = c .before .before .before .before .before .before .before in
     let x = d .code-at .result in
     let p = d .before in
-    leaping-short (p .before .before .codes .inv) x (some p) (d .code-at .ensures) _ 3 (omega (arith, c .before .before .before .before .if5 .taken)) (λ u. omega (arith, c .before .before .before .before .if5 .taken))
+    leaping-short (p .before .before .codes .inv) x (some p) (is-code d) (form-writer (begin p .args .form)) _ 3 (omega (arith, c .before .before .before .before .if5 .taken)) (λ u. omega (arith, c .before .before .before .before .if5 .taken))
     (ap length (pattern-three x (omega (arith, c .before .before .before .before .before .if4 .left)) (omega (arith, c .before .before .before .before .if5 .taken)))) (omega (arith, four p)) (c .before .before .put3 .ensures)
 
 codes-again-4 : tie.Need-codes-again-4 Inv-codes μ-codes
@@ -108,15 +122,15 @@ codes-again-4 c =
     let d = c .before .before .before .before .before .before .before .before .before .before .before in
     let x = d .code-at .result in
     let p = d .before in
-    leaping-long (p .before .before .codes .inv) x (some p) (d .code-at .ensures) _ (omega (arith, c .before .before .before .before .before .before .before .if6 .taken)) (omega (arith, c .before .before .before .before .before .before .if7 .left))
-    (sym (c .before .before .before .before .before .has-pairs .ensures) ∙ c .before .before .before .before .if8 .left) (ap length (pattern-four x (omega (arith, c .before .before .before .before .before .before .before .if6 .taken)))) (four p) (c .before .before .put4 .ensures)
+    leaping-long (p .before .before .codes .inv) x (some p) (is-code d) (form-writer (begin p .args .form)) _ (omega (arith, c .before .before .before .before .before .before .before .if6 .taken)) (omega (arith, c .before .before .before .before .before .before .if7 .left))
+    (c .before .before .before .before .before .has-pairs .ensures (c .before .before .before .before .if8 .left) x (omega (arith, c .before .before .before .before .before .before .before .if6 .taken)) (omega (arith, c .before .before .before .before .before .before .if7 .left))) (ap length (pattern-four x (omega (arith, c .before .before .before .before .before .before .before .if6 .taken)))) (four p) (c .before .before .put4 .ensures)
 
 codes-again-5 : tie.Need-codes-again-5 Inv-codes μ-codes
 codes-again-5 c =
     let d = c .before .before .before .before .before .before .before .before .before in
     let x = d .code-at .result in
     let p = d .before in
-    leaping-short (p .before .before .codes .inv) x (some p) (d .code-at .ensures) _ 3 (omega (arith, c .before .before .before .before .before .if6 .left)) (λ u. omega (arith, c .before .before .before .before .if9 .taken))
+    leaping-short (p .before .before .codes .inv) x (some p) (is-code d) (form-writer (begin p .args .form)) _ 3 (omega (arith, c .before .before .before .before .before .if6 .left)) (λ u. omega (arith, c .before .before .before .before .if9 .taken))
     (ap length (pattern-three x (omega (arith, c .before .before .before .before .if9 .taken)) (omega (arith, c .before .before .before .before .before .if6 .left)))) (omega (arith, four p)) (c .before .before .put32 .ensures)
 
 -- ---- escapes
@@ -132,25 +146,25 @@ escaped c =
     let d = escape-at c in
     let p = d .before in
     let a = begin p .args in
-    leaping-one (p .before .before .codes .inv) (d .code-at .result) (some p) (d .code-at .ensures) (c .low2 .result) (c .low2 .ensures)
+    leaping-one (p .before .before .codes .inv) (d .code-at .result) (some p) (is-code d) (c .low2 .result) (c .low2 .ensures)
     (λ t. writes-escape (rowsOf (a .form)) (form-writer (a .form)) (a .m) (d .code-at .result) t (lax c .1) (lax c .0) (c .before .before .no-escape .ensures (c .before .if11 .left))) (omega (arith, four p))
 
 abbrev escapes-at : tie.After-slice-known7 Inv-codes μ-codes → tie.After-low2 Inv-codes μ-codes
 escapes-at c = c .before .before .before .before .before
 
 escapes : (c : tie.After-slice-known7 Inv-codes μ-codes)
-    → (at (escape-at (escapes-at c) .before) + 1 + c .before .before .escapes-out .result ≤ length (begin (escape-at (escapes-at c) .before) .args .codes .now) / 4)
+    → (at (escape-at (escapes-at c) .before) + 1 + c .before .before .escapes-out .result ≤ length (codesOf (begin (escape-at (escapes-at c) .before) .args .codes .now)))
     × (n (escape-at (escapes-at c) .before) + 1 + c .before .before .escapes-out .result ≤ length (escape-at (escapes-at c) .before .before .before .codes .dst))
 escapes c =
     let l = escapes-at c in
-    let (h, g) = run-within (escaped l) Single _ _ (next (escape-at l .before)) (c .before .before .escapes-out .ensures) in
+    let (h, g) = leapt-within (escaped l) Single _ _ _ (next (escape-at l .before)) (lent (escape-at l .before)) (c .before .before .escapes-out .ensures) in
     (h, omega (arith, g, length-set (escape-at l .before .before .before .codes .dst) (n (escape-at l .before)) (l .low2 .result)))
 
 codes-again-6 : tie.Need-codes-again-6 Inv-codes μ-codes
 codes-again-6 c =
     let l = escapes-at c in
     let a = begin (escape-at l .before) .args in
-    leaping-run (escaped l) Single _ _ (next (escape-at l .before)) (c .before .before .escapes-out .ensures)
+    leaping-run (escaped l) Single _ _ _ (next (escape-at l .before)) (lent (escape-at l .before)) (c .before .before .escapes-out .ensures)
     (λ x t. writes-single (rowsOf (a .form)) (form-writer (a .form)) (a .m) x t (lax l .1) (lax l .0))
 
 pub leap-spec : {M : Type 1} → statement M
@@ -162,62 +176,62 @@ leap-spec =
     (λ c. onward-start _ _ _ _ _ _)
     (λ c. leaping-start _ _ _ _ _ _ (omega arith))
     (λ c. c .before .codes .inv .room)
-    (λ c. omega (arith, some c))
-    (λ c κs. omega (arith, some c))
+    (λ c. omega (arith, whole c))
+    (λ c κs. omega (arith, whole c))
     (λ c κs. tt)
     (λ c. omega (arith, four (low-at c .before)))
     (λ c. omega (arith, four (low-at c .before)))
-    (λ c. omega (arith, some (low-at c .before)))
-    (λ c. omega (arith, some (low-at c .before)))
-    (λ c. omega (arith, some (low-at c .before)))
-    (λ c. omega (arith, some (low-at c .before)))
+    (λ c. omega (arith, whole (low-at c .before)))
+    (λ c. omega (arith, whole (low-at c .before)))
+    (λ c. omega (arith, whole (low-at c .before)))
+    (λ c. omega (arith, whole (low-at c .before)))
     (λ c. omega arith)
     (λ c. first (c .before) .room)
     (λ c. first (c .before) .room)
     (λ c. omega arith)
     (λ c κs. tt)
-    (λ c. omega (arith, run c .0))
+    (λ c. omega (arith, run c .0, codes-length (begin (low-at (run-at c) .before) .args .codes .now)))
     (λ c. omega (arith, run c .1))
-    (λ c. omega (arith, some (low-at (run-at c) .before)))
+    (λ c. omega (arith, whole (low-at (run-at c) .before)))
     codes-again
     (λ c κs. (omega arith, omega arith, omega (arith, four (c .before .before .before .before))))
     (λ c. omega (arith, four (c .before .before .before .before .before .before .before)))
-    (λ c. omega (arith, some (c .before .before .before .before .before .before .before)))
-    (λ c. omega (arith, some (c .before .before .before .before .before .before .before)))
+    (λ c. omega (arith, whole (c .before .before .before .before .before .before .before)))
+    (λ c. omega (arith, whole (c .before .before .before .before .before .before .before)))
     codes-again-2
     (λ c κs. (omega arith, omega arith, omega (arith, four (c .before .before .before .before .before))))
     (λ c. omega (arith, four (c .before .before .before .before .before .before .before .before)))
-    (λ c. omega (arith, some (c .before .before .before .before .before .before .before .before)))
-    (λ c. omega (arith, some (c .before .before .before .before .before .before .before .before)))
+    (λ c. omega (arith, whole (c .before .before .before .before .before .before .before .before)))
+    (λ c. omega (arith, whole (c .before .before .before .before .before .before .before .before)))
     codes-again-3
     (λ c κs. tt)
     (λ c κs. (omega arith, omega arith, four (c .before .before .before .before .before .before .before .before .before)))
     (λ c. omega (arith, four (c .before .before .before .before .before .before .before .before .before .before .before .before)))
-    (λ c. omega (arith, some (c .before .before .before .before .before .before .before .before .before .before .before .before)))
-    (λ c. omega (arith, some (c .before .before .before .before .before .before .before .before .before .before .before .before)))
+    (λ c. omega (arith, whole (c .before .before .before .before .before .before .before .before .before .before .before .before)))
+    (λ c. omega (arith, whole (c .before .before .before .before .before .before .before .before .before .before .before .before)))
     codes-again-4
     (λ c κs. (omega arith, omega arith, omega (arith, four (c .before .before .before .before .before .before .before))))
     (λ c. omega (arith, four (c .before .before .before .before .before .before .before .before .before .before)))
-    (λ c. omega (arith, some (c .before .before .before .before .before .before .before .before .before .before)))
-    (λ c. omega (arith, some (c .before .before .before .before .before .before .before .before .before .before)))
+    (λ c. omega (arith, whole (c .before .before .before .before .before .before .before .before .before .before)))
+    (λ c. omega (arith, whole (c .before .before .before .before .before .before .before .before .before .before)))
     codes-again-5
     (λ c κs. tt)
     (λ c κs. tt)
     (λ c κs. tt)
     (λ c. omega (arith, four (escape-at c .before)))
     (λ c. omega (arith, four (escape-at c .before)))
-    (λ c. omega (arith, some (escape-at c .before)))
-    (λ c. omega (arith, some (escape-at c .before)))
-    (λ c. omega (arith, some (escape-at c .before)))
-    (λ c. omega (arith, some (escape-at c .before)))
+    (λ c. omega (arith, whole (escape-at c .before)))
+    (λ c. omega (arith, whole (escape-at c .before)))
+    (λ c. omega (arith, whole (escape-at c .before)))
+    (λ c. omega (arith, whole (escape-at c .before)))
     (λ c. omega arith)
     (λ c. escaped (c .before) .room)
     (λ c. escaped (c .before) .room)
     (λ c. omega arith)
     (λ c κs. tt)
-    (λ c. omega (arith, escapes c .0))
+    (λ c. omega (arith, escapes c .0, codes-length (begin (escape-at (escapes-at c) .before) .args .codes .now)))
     (λ c. omega (arith, escapes c .1))
-    (λ c. omega (arith, some (escape-at (escapes-at c) .before)))
+    (λ c. omega (arith, whole (escape-at (escapes-at c) .before)))
     codes-again-6
     (λ c. c .before .codes .inv .onward .same)
     (λ c. c .before .codes .inv .onward)

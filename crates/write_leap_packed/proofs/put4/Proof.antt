@@ -6,7 +6,6 @@ use native.Mathlib.Omega.{arith}
 use borrow.Author.Needs.{needs}
 use lib.ListN.{length-set}
 use lib.Seq.{sets-eq}
-use Rattle.form.specs.Pattern.{pattern}
 use Rattle.writings.proofs.Leaps.{pattern-four}
 use Rattle.write_leap_packed.proofs.put4.Statement.{statement}
 use Rattle.write_leap_packed.proofs.put4.Tie as tie
