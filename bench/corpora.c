@@ -95,10 +95,31 @@ void fill(const struct corpus *c, uint8_t *bytes, size_t len)
         bytes[at] = c->next ? '.' : (uint8_t)below(256);
 }
 
-/* Whether a byte of a text is a later one of its sequence. */
-static int is_later(uint8_t b)
+/* The same in CESU-8, as far as there is room: four bytes become a high and a low surrogate of three each. */
+static void recode(const uint8_t *src, uint8_t *dst)
 {
-    return (b & 0xC0) == 0x80;
+    size_t at = 0;
+
+    while (WHOLE - at >= 6) {
+        size_t len = 1 + (*src >= 0xC0) + (*src >= 0xE0) + (*src >= 0xF0);
+        uint32_t code = (src[0] & 7u) << 18 | (src[1] & 0x3Fu) << 12 | (src[2] & 0x3Fu) << 6 | (src[3] & 0x3Fu);
+
+        if (len == 4) {
+            at += put_code(dst + at, 0xD7C0 + (code >> 10));
+            at += put_code(dst + at, 0xDC00 + (code & 0x3FF));
+        } else {
+            memcpy(dst + at, src, len);
+            at += len;
+        }
+        src += len;
+    }
+    memset(dst + at, '.', WHOLE - at);
+}
+
+/* Whether no code of a text starts at s: there is a later byte of a sequence, or a low surrogate. */
+static int is_inside(const uint8_t *s)
+{
+    return (s[0] & 0xC0) == 0x80 || (s[0] == 0xED && s[1] >= 0xB0);
 }
 
 /* The length of a line at the front of s: up to the end of a code if it is text, else any. */
@@ -106,24 +127,32 @@ static size_t line_length(const uint8_t *s, int is_text)
 {
     size_t len = SHORTEST + below(LONGEST - SHORTEST + 1);
 
-    while (is_text && len > SHORTEST && is_later(s[len]))
+    while (is_text && len > SHORTEST && is_inside(s + len))
         len--;
-    while (is_text && is_later(s[len]))
+    while (is_text && is_inside(s + len))
         len++;
     return len;
 }
 
-static void cut_lines(struct corpus *c)
+static void cut_lines(struct corpus *c, int form)
 {
-    struct text rest = c->whole;
+    struct text rest = c->whole[form];
 
     rest.codes = new_memory(LINES * LONGEST * sizeof *rest.codes);
     for (size_t i = 0; i < LINES; i++) {
         rest.len = line_length(rest.bytes, c->next != NULL);
-        c->lines[i] = rest;
+        c->lines[form][i] = rest;
         rest.bytes += rest.len;
         rest.codes += rest.len;
     }
+}
+
+static struct text new_text(void)
+{
+    struct text text = {.bytes = new_memory(WHOLE), .len = WHOLE};
+
+    text.codes = new_memory(WHOLE * sizeof *text.codes);
+    return text;
 }
 
 struct corpus corpora[CORPORA] = {
@@ -138,10 +167,16 @@ struct corpus corpora[CORPORA] = {
 void make_corpora(void)
 {
     for (struct corpus *c = corpora; c < corpora + CORPORA; c++) {
-        c->whole.bytes = new_memory(WHOLE);
-        c->whole.len = WHOLE;
-        c->whole.codes = new_memory(WHOLE * sizeof *c->whole.codes);
-        fill(c, c->whole.bytes, WHOLE);
-        cut_lines(c);
+        c->whole[UTF8] = new_text();
+        fill(c, c->whole[UTF8].bytes, WHOLE);
+        cut_lines(c, UTF8);
+    }
+    for (struct corpus *c = corpora; c < corpora + CORPORA; c++) {
+        c->whole[CESU8] = new_text();
+        if (c->next)
+            recode(c->whole[UTF8].bytes, c->whole[CESU8].bytes);
+        else
+            memcpy(c->whole[CESU8].bytes, c->whole[UTF8].bytes, WHOLE);
+        cut_lines(c, CESU8);
     }
 }

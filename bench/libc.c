@@ -6,7 +6,6 @@
 #include <iconv.h>
 #include <locale.h>
 #include <string.h>
-#include <uchar.h>
 #include <wchar.h>
 
 #define FAILED ((size_t)-1)
@@ -47,29 +46,6 @@ static size_t wcsnrtombs_write(const void *in, size_t len, void *out, size_t roo
     return wcsnrtombs(out, &codes, len, room, &state);
 }
 
-/* It reads codes above 10FFFF, so what is bad is found by the code as well. */
-static size_t mbrtoc32_read(const void *in, size_t len, void *out, size_t room)
-{
-    const char *src = in, *end = src + len;
-    char32_t *codes = out, code = 0;
-    size_t made = 0;
-    mbstate_t state;
-
-    memset(&state, 0, sizeof state);
-    while (src < end && made < room) {
-        size_t count = mbrtoc32(&code, src, (size_t)(end - src), &state);
-
-        if (count > len || code > 0x10FFFF) {
-            code = 0xDC00u + (unsigned char)*src;
-            count = 1;
-            memset(&state, 0, sizeof state);
-        }
-        codes[made++] = code;
-        src += count ? count : 1;
-    }
-    return made;
-}
-
 /* iconv stops before a bad byte, with all that comes before it put. */
 static size_t iconv_read(const void *in, size_t len, void *out, size_t room)
 {
@@ -107,6 +83,5 @@ const struct contender mbsnrtowcs_reader = {
     .name = "mbsnrtowcs", .only_well_formed = 1, .start = start_locale, .run = mbsnrtowcs_read};
 const struct contender wcsnrtombs_writer = {
     .name = "wcsnrtombs", .only_well_formed = 1, .start = start_locale, .run = wcsnrtombs_write};
-const struct contender mbrtoc32_reader = {.name = "mbrtoc32", .start = start_locale, .run = mbrtoc32_read};
 const struct contender iconv_reader = {.name = "iconv", .start = start_iconv, .run = iconv_read};
 const struct contender iconv_writer = {.name = "iconv", .start = start_iconv, .run = iconv_write};

@@ -10,35 +10,77 @@
 #include <stdlib.h>
 #include <string.h>
 
+#define PLACED(entry) &entries_0.entry, &entries_16.entry, &entries_32.entry, &entries_48.entry
+
 static const struct contender *readers[MOST] = {
-    &entry_reader, &direct_reader, &mbsnrtowcs_reader, &mbrtoc32_reader, &iconv_reader,
+    PLACED(reader[UTF8]), &direct_reader, &mbsnrtowcs_reader, &iconv_reader,
 #ifdef RUST
     &rust_reader,
+#endif
+#ifdef UTF8PROC
+    &utf8proc_reader,
+#endif
+#ifdef UNISTRING
+    &unistring_reader,
+#endif
+#ifdef GLIB
+    &glib_reader,
+#endif
+#ifdef ICU
+    &icu_reader, &icu_macro_reader,
 #endif
 #ifdef PYTHON
     &python_reader,
 #endif
 };
 static const struct contender *writers[MOST] = {
-    &entry_writer, &direct_writer, &wcsnrtombs_writer, &iconv_writer,
+    PLACED(writer[UTF8]), &direct_writer, &wcsnrtombs_writer, &iconv_writer,
 #ifdef RUST
     &rust_writer,
+#endif
+#ifdef UTF8PROC
+    &utf8proc_writer,
+#endif
+#ifdef UNISTRING
+    &unistring_writer,
+#endif
+#ifdef GLIB
+    &glib_writer,
+#endif
+#ifdef ICU
+    &icu_writer, &icu_macro_writer,
 #endif
 #ifdef PYTHON
     &python_writer,
 #endif
 };
+static const struct contender *cesu8_readers[MOST] = {
+    PLACED(reader[CESU8]),
+#ifdef ICU
+    &icu_cesu8_reader,
+#endif
+};
+static const struct contender *cesu8_writers[MOST] = {
+    PLACED(writer[CESU8]),
+#ifdef ICU
+    &icu_cesu8_writer,
+#endif
+};
 
 static struct table tables[] = {
-    {"Reader, 1 MiB", "ns a byte", readers, .writes = 0, .texts = 1, .room = WHOLE},
-    {"Writer, 1 MiB", "ns a byte", writers, .writes = 1, .texts = 1, .room = WHOLE},
-    {"Reader, short lines", "ns a line", readers, .writes = 0, .texts = LINES, .room = LONGEST},
-    {"Writer, short lines", "ns a line", writers, .writes = 1, .texts = LINES, .room = LONGEST},
+    {"Reader, 1 MiB", "ns a byte", readers, UTF8, .writes = 0, .texts = 1, .room = WHOLE},
+    {"Writer, 1 MiB", "ns a byte", writers, UTF8, .writes = 1, .texts = 1, .room = WHOLE},
+    {"Reader, short lines", "ns a line", readers, UTF8, .writes = 0, .texts = LINES, .room = LONGEST},
+    {"Writer, short lines", "ns a line", writers, UTF8, .writes = 1, .texts = LINES, .room = LONGEST},
+    {"Reader of CESU-8, 1 MiB", "ns a byte", cesu8_readers, CESU8, .writes = 0, .texts = 1, .room = WHOLE},
+    {"Writer of CESU-8, 1 MiB", "ns a byte", cesu8_writers, CESU8, .writes = 1, .texts = 1, .room = WHOLE},
+    {"Reader of CESU-8, short lines", "ns a line", cesu8_readers, CESU8, .writes = 0, .texts = LINES, .room = LONGEST},
+    {"Writer of CESU-8, short lines", "ns a line", cesu8_writers, CESU8, .writes = 1, .texts = LINES, .room = LONGEST},
 };
 
 enum { TABLES = sizeof tables / sizeof tables[0] };
 
-/* One output for all; CPython alone has its own. */
+/* One output for all; CPython and glib have their own. */
 static void *out;
 
 /* Drops the contenders that cannot run here. */
@@ -84,7 +126,7 @@ static int gives(const struct table *t, const struct contender *one, const struc
 /* Makes the tasks, and checks the outputs. */
 static void prepare(const struct table *t, const struct corpus *c, const struct contender *one, struct job *job)
 {
-    const struct text *texts = t->texts == 1 ? &c->whole : c->lines;
+    const struct text *texts = t->texts == 1 ? &c->whole[t->form] : c->lines[t->form];
 
     job->tasks = new_memory(t->texts * sizeof *job->tasks);
     for (size_t i = 0; i < t->texts; i++) {
@@ -132,10 +174,18 @@ static void each_job(int backwards, action *act)
 }
 
 /* The codes are the entry's. Every other reader has to give them too, and every writer has to give the bytes. */
-static void read_texts(struct text *texts, size_t count)
+static void read_texts(int form, struct text *texts, size_t count)
 {
     for (struct text *t = texts; t < texts + count; t++)
-        t->count = entry_reader.run(t->bytes, t->len, t->codes, t->len);
+        t->count = entries_0.reader[form].run(t->bytes, t->len, t->codes, t->len);
+}
+
+static void read_corpus(struct corpus *c)
+{
+    for (int form = 0; form < FORMS; form++) {
+        read_texts(form, &c->whole[form], 1);
+        read_texts(form, c->lines[form], LINES);
+    }
 }
 
 int main(int argc, char **argv)
@@ -148,12 +198,12 @@ int main(int argc, char **argv)
     }
     keep_able(readers, "reader");
     keep_able(writers, "writer");
+    keep_able(cesu8_readers, "reader of CESU-8");
+    keep_able(cesu8_writers, "writer of CESU-8");
     out = new_memory(WHOLE * sizeof(uint32_t));
     make_corpora();
-    for (int i = 0; i < CORPORA; i++) {
-        read_texts(&corpora[i].whole, 1);
-        read_texts(corpora[i].lines, LINES);
-    }
+    for (int i = 0; i < CORPORA; i++)
+        read_corpus(&corpora[i]);
     each_job(0, prepare);
     for (int round = 0; round < rounds; round++)
         each_job(round % 2, measure);

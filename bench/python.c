@@ -62,6 +62,6 @@ static void fetch_bytes(void *out, size_t room)
 }
 
 const struct contender python_reader = {
-    .name = NAME, .start = start, .run = python_read, .fetch = fetch_codes};
+    .name = NAME, .is_apart = 1, .start = start, .run = python_read, .fetch = fetch_codes};
 const struct contender python_writer = {
-    .name = NAME, .start = start, .prepare = str_of, .run = python_write, .fetch = fetch_bytes};
+    .name = NAME, .is_apart = 1, .start = start, .prepare = str_of, .run = python_write, .fetch = fetch_bytes};

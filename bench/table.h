@@ -5,7 +5,8 @@
 #include "contender.h"
 #include "corpora.h"
 
-enum { MOST = 8 };
+/* The placements of the entry, and all contenders. */
+enum { PLACES = 4, MOST = 16 };
 
 /* What a contender is handed of a text, and what it has to give. */
 struct task {
@@ -19,11 +20,11 @@ struct job {
     double least;
 };
 
-/* The first contender is the entry; the last ones may be NULL. Each corpus has so many texts, each with that room. */
+/* First comes the entry in its placements; the last may be NULL. Each corpus has so many texts, each with that room. */
 struct table {
     const char *title, *unit;
     const struct contender **contenders;
-    int writes;
+    int form, writes;
     size_t texts, room;
     struct job jobs[CORPORA][MOST];
 };

@@ -41,7 +41,8 @@ static void test_entries(void)
     test_pairs();
     test_short_writes();
     test_random_writes();
-    test_stretches();
+    test_leaps();
+    test_long_leaps();
     test_byte_places();
     if (!small) {
         test_limits();
