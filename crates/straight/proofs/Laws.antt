@@ -1,24 +1,21 @@
 -- What a straight line tells, for the loops that go by it. Assumes nothing.
-use mathlib.Core.Path.{_≡_, refl, _∙_}
+use mathlib.Core.Path.{_≡_, refl, ap, _∙_}
 use mathlib.Core.Bool.{Bool, true, false}
 use mathlib.Core.List.{List, [], _∷_, _++_}
 use Prim.Native.Nat.{ℕ, zero, suc, _≤_, _<_}
 use native.Mathlib.Omega.{arith}
-use lib.Dec.{T, ltb}
-use lib.ListN.{length, getD, take, length-take, length-append}
-use borrow.Author.Tests.{ltb-true}
+use lib.Dec.{T}
+use lib.ListN.{length, length-append}
 use Rattle.form.specs.Table as Table
 use Rattle.form.specs.Table.{Codes, plain, surro, cesu}
 use Rattle.form.specs.Scan.{Found, well, part, bad, scan, after}
 use Rattle.form.proofs.Scan.{scan-well, codes-nil}
 use Rattle.form.proofs.After.{resume}
-use Rattle.form.proofs.Pattern.{each-row, shape}
 use Rattle.forms.specs.declared.Form.{Form}
-use Rattle.forms.specs.declared.Form.the-variants.{Plain, Surro, Cesu}
 use Rattle.forms.specs.Forms.{rowsOf}
 use Rattle.forms.proofs.Forms.{form-regular, form-scans, every-form}
-use Rattle.straight.specs.Straight.{longest, straightOf}
-use Rattle.straight.proofs.Shapes.{scan-shape, shape-short, has-low}
+use Rattle.straight.specs.Straight.{straightOf}
+use Rattle.straight.proofs.Shapes.{scan-shape, codes-pair, has-low}
 
 -- a byte below 80 is its own sequence
 pub ascii-scan : (f : Form) (b : ℕ) (t : List ℕ) → b < 0x80 → scan (rowsOf f) (b ∷ t) ≡ well b 1
@@ -41,11 +38,7 @@ stray-scan f b t h g =
 
 -- a length other than 0 is that of what is found
 well-told : (x : Found) → (straightOf x .len ≡ 0 → ⊥) → x ≡ well (straightOf x .code) (straightOf x .len)
-well-told (well c n) h = go (ltb longest n) refl
-  where
-    go : (t : Bool) → ltb longest n ≡ t → well c n ≡ well (straightOf (well c n) .code) (straightOf (well c n) .len)
-    go true e = absurd (h (rw e refl))
-    go false e = rw e refl
+well-told (well c n) h = refl
 well-told part h = absurd (h refl)
 well-told (bad n) h = absurd (h refl)
 
@@ -53,36 +46,20 @@ pub straight-well : (f : Form) (s : List ℕ) → (straightOf (scan (rowsOf f) s
     → scan (rowsOf f) s ≡ well (straightOf (scan (rowsOf f) s) .code) (straightOf (scan (rowsOf f) s) .len)
 straight-well f s h = well-told (scan (rowsOf f) s) h
 
--- and length 0 is that of a longer one, or of none
-none-told : (c n : ℕ) → straightOf (well c n) .len ≡ 0 → (n ≡ 0 → ⊥) → 4 < n
-none-told c n h k = go (ltb longest n) refl
-  where
-    go : (t : Bool) → ltb longest n ≡ t → 4 < n
-    go true e = omega (arith, ltb-true longest n e)
-    go false e = absurd (k (rw e at h))
-
 -- ---- with four bytes left
 
--- only after ED there are longer sequences: the pairs of CESU-8
+-- only after ED there are longer sequences
 long-first : (f : Form) (b : ℕ) (w : List ℕ) (c : ℕ) → Codes (rowsOf f) (b ∷ w) c → 4 < length (b ∷ w) → b ≡ 0xED
-unfolding plain surro cesu
-long-first Plain b w c h l = absurd (omega (arith, shape-short (b ∷ w) c (shape 0x9F (omega arith) (b ∷ w) c h)))
-long-first Surro b w c h l = absurd (omega (arith, shape-short (b ∷ w) c (shape 0xBF (omega arith) (b ∷ w) c h)))
-long-first Cesu b w c h l =
-    each-row cesu (λ v d. 4 < length v → getD v 0 0 ≡ 0xED)
-    (omega arith, (omega arith, (omega arith, (omega arith, (omega arith, (omega arith, (omega arith, tt))))))) (b ∷ w) c h l
+long-first f b w c h l = let (g, n, p, e) = codes-pair f (b ∷ w) c .0 (h, l) in p .0
 
--- a place with four bytes, none of these sequences and a first byte other than ED is bad: neither partial nor a pair
+-- a place with four bytes, no sequence and a first byte other than ED is bad: not partial
 pub sure-bad : (f : Form) (b : ℕ) (t : List ℕ) → (b ≡ 0xED → ⊥) → 4 ≤ length (b ∷ t) → straightOf (scan (rowsOf f) (b ∷ t)) .len ≡ 0
     → (n : ℕ) × (scan (rowsOf f) (b ∷ t) ≡ bad n)
 sure-bad f b t ne l z = go (scan (rowsOf f) (b ∷ t)) refl
   where
     go : (x : Found) → scan (rowsOf f) (b ∷ t) ≡ x → (n : ℕ) × (scan (rowsOf f) (b ∷ t) ≡ bad n)
     go (well c zero) e = absurd (codes-nil (rowsOf f) c (form-regular f .is-open) (scan-well (rowsOf f) (b ∷ t) c zero e .0))
-    go (well c (suc m)) e =
-        let (h, g) = scan-well (rowsOf f) (b ∷ t) c (suc m) e in
-        let k = none-told c (suc m) (rw e at z) (λ i. omega arith) in
-        absurd (ne (long-first f b (take m t) c h (omega (arith, length-take m t))))
+    go (well c (suc m)) e = absurd (omega (arith, ap (λ (x : Found). straightOf x .len) e))
     go part e =
         let (p, (u, q, (c, h))) = form-scans f .finds-part (b ∷ t) (omega arith) .0 e in
         absurd (ne (long-first f b (t ++ u) c h (omega (arith, length-append t u))))

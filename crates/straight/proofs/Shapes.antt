@@ -1,14 +1,14 @@
--- What a straight line goes by: the shapes of Table 3-6. Assumes nothing.
+-- What a straight line goes by: the shapes of Table 3-6, and the pairs of CESU-8. Assumes nothing.
 use mathlib.Core.Path.{_≡_, refl, sym, ap, _∙_, subst}
 use mathlib.Core.Logic.{_↔_, inl, inr}
 use mathlib.Core.Bool.{Bool, true, false}
 use mathlib.Core.List.{List, [], _∷_, _++_}
-use Prim.Native.Nat.{ℕ, _≤_, _<_}
+use Prim.Native.Nat.{ℕ, _+_, _-_, _*_, _≤_, _<_}
 use native.Mathlib.Omega.{arith}
 use lib.Dec.{ltb}
 use lib.ListN.{length, getD, take, drop, take-append-drop, length-take}
-use borrow.Author.Tests.{le-ltb, ltb-false}
-use Rattle.form.specs.Table.{_to_, In, Codes, Scalar, plain, surro, cesu}
+use borrow.Author.Tests.{ltb-true, ltb-false}
+use Rattle.form.specs.Table.{_to_, tail, In, Codes, Scalar, plain, surro, cesu}
 use Rattle.form.specs.Scan.{Found, well, part, bad, scan}
 use Rattle.form.proofs.Scan.{scan-well, well-scan}
 use Rattle.form.proofs.Pattern.{each-row, Shape, shape, shape-pattern}
@@ -20,7 +20,7 @@ use Rattle.forms.specs.declared.Form.the-variants.{Plain, Surro, Cesu}
 use Rattle.forms.specs.Forms.{rowsOf}
 use Rattle.forms.proofs.Forms.{form-regular}
 use Rattle.straight.specs.declared.Straight.{Straight}
-use Rattle.straight.specs.Straight.{longest, straightOf}
+use Rattle.straight.specs.Straight.{straightOf}
 
 -- ---- the sequences of at most four bytes
 
@@ -64,23 +64,70 @@ codes-shape Cesu w c = (
 pub scan-shape : (f : Form) (w t : List ℕ) (c : ℕ) → Shape w c → Has f c → scan (rowsOf f) (w ++ t) ≡ well c (length w)
 scan-shape f w t c h g = well-scan (rowsOf f) w t c (form-regular f .is-distinct) (codes-shape f w c .1 (h, g) .0)
 
--- ---- what is told where a shape stands, and where none does
+-- ---- the sequences of more than four bytes: the pairs of CESU-8
+
+-- the form that has them
+abbrev pub Pairs : Form → Type 0
+Pairs Plain = ⊥
+Pairs Surro = ⊥
+Pairs Cesu = Unit {0}
+
+-- the six bytes of a pair stand at the front of s
+abbrev pub Pair : List ℕ → Type 0
+Pair s =
+    (getD s 0 0 ≡ 0xED) × In (0xA0 to 0xAF) (getD s 1 0) × In tail (getD s 2 0)
+    × (getD s 3 0 ≡ 0xED) × In (0xB0 to 0xBF) (getD s 4 0) × In tail (getD s 5 0)
+
+-- their code
+abbrev pub pair-code : List ℕ → ℕ
+pair-code s = 0x10000 + ((getD s 1 0 - 0xA0) * 0x40 + (getD s 2 0 - 0x80)) * 0x400 + (getD s 4 0 - 0xB0) * 0x40 + (getD s 5 0 - 0x80)
+
+cesu-long : (w : List ℕ) (c : ℕ) → Codes cesu w c → 4 < length w → (length w ≡ 6) × Pair w × (c ≡ pair-code w)
+unfolding cesu
+cesu-long =
+    each-row cesu (λ w c. 4 < length w → (length w ≡ 6) × Pair w × (c ≡ pair-code w))
+    (omega arith, (omega arith, (omega arith, (omega arith, (omega arith, (omega arith, (omega arith, tt)))))))
+
+cesu-pair : (w : List ℕ) (c : ℕ) → length w ≡ 6 → Pair w → c ≡ pair-code w → Codes cesu w c
+unfolding cesu
+cesu-pair (x ∷ y ∷ z ∷ v ∷ u ∷ o ∷ []) c l (p, q, r, i, j, k) e =
+    inr (inr (inr (inr (inr (inr (inl ((omega arith, (q, (r, (omega arith, (j, (k, tt)))))), rw (p, i) (omega arith))))))))
+cesu-pair (x ∷ y ∷ z ∷ v ∷ u ∷ o ∷ n ∷ w) c l h e = absurd (omega arith)
+cesu-pair (x ∷ y ∷ z ∷ v ∷ u ∷ []) c l h e = absurd (omega arith)
+cesu-pair (x ∷ y ∷ z ∷ v ∷ []) c l h e = absurd (omega arith)
+cesu-pair (x ∷ y ∷ z ∷ []) c l h e = absurd (omega arith)
+cesu-pair (x ∷ y ∷ []) c l h e = absurd (omega arith)
+cesu-pair (x ∷ []) c l h e = absurd (omega arith)
+cesu-pair [] c l h e = absurd (omega arith)
+
+-- a form's sequences of more than four bytes are the pairs, if it has them
+pub codes-pair : (f : Form) (w : List ℕ) (c : ℕ) → (Codes (rowsOf f) w c × (4 < length w)) ↔ (Pairs f × (length w ≡ 6) × Pair w × (c ≡ pair-code w))
+unfolding plain surro
+codes-pair Plain w c = (λ (h, l). absurd (omega (arith, shape-short w c (shape 0x9F (omega arith) w c h))), λ h. absurd (h .0))
+codes-pair Surro w c = (λ (h, l). absurd (omega (arith, shape-short w c (shape 0xBF (omega arith) w c h))), λ h. absurd (h .0))
+codes-pair Cesu w c = (λ (h, l). let (n, p, e) = cesu-long w c h l in (tt, n, p, e), λ (g, n, p, e). (cesu-pair w c n p e, omega arith))
+
+-- ---- what is told where a sequence stands, and where none does
 
 abbrev Tells : Form → List ℕ → ℕ → ℕ → Type 0
 Tells f s n c = _≡_ {A = Straight} (record { len = n; code = c }) (straightOf (scan (rowsOf f) s))
 
--- nothing where no beginning has a shape
-lost : (f : Form) (s : List ℕ) → ((w t : List ℕ) (c : ℕ) → w ++ t ≡ s → Shape w c → Has f c → ⊥) → Tells f s 0 0
-lost f s none = go (scan (rowsOf f) s) refl
+-- nothing where no beginning is a sequence
+lost : (f : Form) (s : List ℕ) → ((w t : List ℕ) (c : ℕ) → w ++ t ≡ s → Shape w c → Has f c → ⊥)
+    → ((w t : List ℕ) → w ++ t ≡ s → length w ≡ 6 → Pair w → Pairs f → ⊥) → Tells f s 0 0
+lost f s none unpaired = go (scan (rowsOf f) s) refl
   where
     go : (x : Found) → scan (rowsOf f) s ≡ x → Tells f s 0 0
-    go (well c m) e = short (ltb longest m) refl
+    go (well c m) e = by-length (ltb 4 m) refl
       where
-        short : (t : Bool) → ltb longest m ≡ t → Tells f s 0 0
-        short true p = sym (ap straightOf e ∙ rw p refl)
-        short false p =
+        by-length : (t : Bool) → ltb 4 m ≡ t → Tells f s 0 0
+        by-length true p =
             let (k, l) = scan-well (rowsOf f) s c m e in
-            let (h, g) = codes-shape f (take m s) c .0 (k, omega (arith, ltb-false longest m p, length-take m s)) in
+            let (g, n, q, i) = codes-pair f (take m s) c .0 (k, omega (arith, ltb-true 4 m p, length-take m s)) in
+            absurd (unpaired (take m s) (drop m s) (take-append-drop m s) n q g)
+        by-length false p =
+            let (k, l) = scan-well (rowsOf f) s c m e in
+            let (h, g) = codes-shape f (take m s) c .0 (k, omega (arith, ltb-false 4 m p, length-take m s)) in
             absurd (none (take m s) (drop m s) c (take-append-drop m s) h g)
     go part e = sym (ap straightOf e)
     go (bad n) e = sym (ap straightOf e)
@@ -102,10 +149,15 @@ front4 s = getD s 0 0 ∷ getD s 1 0 ∷ getD s 2 0 ∷ getD s 3 0 ∷ []
 abbrev Not : Form → (List ℕ → List ℕ) → List ℕ → Type 0
 Not f front s = (c : ℕ) → length (front s) ≤ length s → Shape (front s) c → Has f c → ⊥
 
-lost-all : (f : Form) (s : List ℕ) → Not f front1 s → Not f front2 s → Not f front3 s → Not f front4 s → Tells f s 0 0
-lost-all f s n1 n2 n3 n4 =
+-- the first six are no pair
+abbrev Unpaired : Form → List ℕ → Type 0
+Unpaired f s = 6 ≤ length s → Pair s → Pairs f → ⊥
+
+lost-all : (f : Form) (s : List ℕ) → Not f front1 s → Not f front2 s → Not f front3 s → Not f front4 s → Unpaired f s → Tells f s 0 0
+lost-all f s n1 n2 n3 n4 n6 =
     lost f s
     (λ w t c e. let i = sym e in go w t c (subst (Not f front1) i n1) (subst (Not f front2) i n2) (subst (Not f front3) i n3) (subst (Not f front4) i n4))
+    (λ w t e. six w t (subst (Unpaired f) (sym e) n6))
   where
     go : (w t : List ℕ) (c : ℕ) → Not f front1 (w ++ t) → Not f front2 (w ++ t) → Not f front3 (w ++ t) → Not f front4 (w ++ t) → Shape w c → Has f c → ⊥
     go [] t c m1 m2 m3 m4 h g = h
@@ -115,25 +167,34 @@ lost-all f s n1 n2 n3 n4 =
     go (x ∷ y ∷ z ∷ v ∷ []) t c m1 m2 m3 m4 h g = m4 c (omega arith) h g
     go (x ∷ y ∷ z ∷ v ∷ u ∷ w) t c m1 m2 m3 m4 h g = h
 
--- by the range of the first byte there is one length to ask about
+    six : (w t : List ℕ) → Unpaired f (w ++ t) → length w ≡ 6 → Pair w → Pairs f → ⊥
+    six (x ∷ y ∷ z ∷ v ∷ u ∷ o ∷ w) t m n p g = m (omega arith) p g
+    six (x ∷ y ∷ z ∷ v ∷ u ∷ []) t m n p g = omega arith
+    six (x ∷ y ∷ z ∷ v ∷ []) t m n p g = omega arith
+    six (x ∷ y ∷ z ∷ []) t m n p g = omega arith
+    six (x ∷ y ∷ []) t m n p g = omega arith
+    six (x ∷ []) t m n p g = omega arith
+    six [] t m n p g = omega arith
+
+-- by the range of the first byte there is one length to ask about; from E0 to EF pairs too
 pub lost-none : (f : Form) (s : List ℕ) → length s ≡ 0 → Tells f s 0 0
-lost-none f s e = lost-all f s (λ c l h g. omega arith) (λ c l h g. omega arith) (λ c l h g. omega arith) (λ c l h g. omega arith)
+lost-none f s e = lost-all f s (λ c l h g. omega arith) (λ c l h g. omega arith) (λ c l h g. omega arith) (λ c l h g. omega arith) (λ l h g. omega arith)
 
 pub lost-one : (f : Form) (s : List ℕ) → In (0x80 to 0xC1) (getD s 0 0) → Tells f s 0 0
-lost-one f s p = lost-all f s (λ c l h g. omega arith) (λ c l h g. omega arith) (λ c l h g. omega arith) (λ c l h g. omega arith)
+lost-one f s p = lost-all f s (λ c l h g. omega arith) (λ c l h g. omega arith) (λ c l h g. omega arith) (λ c l h g. omega arith) (λ l h g. omega arith)
 
 pub lost-two : (f : Form) (s : List ℕ) → In (0xC2 to 0xDF) (getD s 0 0) → Not f front2 s → Tells f s 0 0
-lost-two f s p k = lost-all f s (λ c l h g. omega arith) k (λ c l h g. omega arith) (λ c l h g. omega arith)
+lost-two f s p k = lost-all f s (λ c l h g. omega arith) k (λ c l h g. omega arith) (λ c l h g. omega arith) (λ l h g. omega arith)
 
-pub lost-three : (f : Form) (s : List ℕ) → In (0xE0 to 0xEF) (getD s 0 0) → Not f front3 s → Tells f s 0 0
-lost-three f s p k = lost-all f s (λ c l h g. omega arith) (λ c l h g. omega arith) k (λ c l h g. omega arith)
+pub lost-three : (f : Form) (s : List ℕ) → In (0xE0 to 0xEF) (getD s 0 0) → Not f front3 s → Unpaired f s → Tells f s 0 0
+lost-three f s p k n = lost-all f s (λ c l h g. omega arith) (λ c l h g. omega arith) k (λ c l h g. omega arith) n
 
 pub lost-four : (f : Form) (s : List ℕ) → In (0xF0 to 0xFF) (getD s 0 0) → Not f front4 s → Tells f s 0 0
-lost-four f s p k = lost-all f s (λ c l h g. omega arith) (λ c l h g. omega arith) (λ c l h g. omega arith) k
+lost-four f s p k = lost-all f s (λ c l h g. omega arith) (λ c l h g. omega arith) (λ c l h g. omega arith) k (λ l h g. omega arith)
 
 -- a shape's code and length
 told : (f : Form) (w t : List ℕ) (c : ℕ) → Shape w c → Has f c → Tells f (w ++ t) (length w) c
-told f w t c h g = sym (ap straightOf (scan-shape f w t c h g) ∙ rw (le-ltb longest (length w) (omega (arith, shape-short w c h))) refl)
+told f w t c h g = sym (ap straightOf (scan-shape f w t c h g))
 
 pub found-one : (f : Form) (s : List ℕ) (c : ℕ) → 1 ≤ length s → Shape (front1 s) c → Has f c → Tells f s 1 c
 found-one f (x ∷ t) c l h g = told f (x ∷ []) t c h g
@@ -157,6 +218,18 @@ found-four f (x ∷ y ∷ []) c l h g = absurd (omega arith)
 found-four f (x ∷ []) c l h g = absurd (omega arith)
 found-four f [] c l h g = absurd (omega arith)
 
+-- a pair's
+pub found-pair : (s : List ℕ) (c : ℕ) → 6 ≤ length s → Pair s → c ≡ pair-code s → Tells Cesu s 6 c
+found-pair (x ∷ y ∷ z ∷ v ∷ u ∷ o ∷ t) c l p e =
+    let w = x ∷ y ∷ z ∷ v ∷ u ∷ o ∷ [] in
+    sym (ap straightOf (well-scan (rowsOf Cesu) w t c (form-regular Cesu .is-distinct) (codes-pair Cesu w c .1 (tt, refl, p, e) .0)))
+found-pair (x ∷ y ∷ z ∷ v ∷ u ∷ []) c l p e = absurd (omega arith)
+found-pair (x ∷ y ∷ z ∷ v ∷ []) c l p e = absurd (omega arith)
+found-pair (x ∷ y ∷ z ∷ []) c l p e = absurd (omega arith)
+found-pair (x ∷ y ∷ []) c l p e = absurd (omega arith)
+found-pair (x ∷ []) c l p e = absurd (omega arith)
+found-pair [] c l p e = absurd (omega arith)
+
 -- ---- which codes a form has
 
 -- up to FFFF every form has the scalar values
@@ -179,8 +252,16 @@ surro-all f c e h = subst (λ (x : Form). Has x c) (sym e) h
 pub plain-surrogate : (f : Form) (c : ℕ) → f ≡ Plain → In (0xD800 to 0xDFFF) c → Has f c → ⊥
 plain-surrogate f c e h g = omega (arith, scalar-outside c (subst (λ (x : Form). Has x c) e g) (h .0))
 
-pub cesu-surrogate : (f : Form) (c : ℕ) → f ≡ Cesu → In (0xD800 to 0xDFFF) c → Has f c → ⊥
-cesu-surrogate f c e h g = let i = subst (λ (x : Form). Has x c) e g in omega (arith, scalar-outside c (i .0) (h .0))
+pub plain-unpaired : (f : Form) → f ≡ Plain → Pairs f → ⊥
+plain-unpaired f e g = subst Pairs e g
+
+cesu-surrogate : (c : ℕ) → In (0xD800 to 0xDFFF) c → Has Cesu c → ⊥
+cesu-surrogate c h g = omega (arith, scalar-outside c (g .0) (h .0))
 
 pub cesu-beyond : (f : Form) (c : ℕ) → f ≡ Cesu → 0xFFFF < c → Has f c → ⊥
 cesu-beyond f c e h g = let i = subst (λ (x : Form). Has x c) e g in omega (arith, i .1)
+
+-- so where three bytes have a surrogate's code CESU-8 has a pair or nothing
+pub lost-pair : (s : List ℕ) (high : ℕ) → In (0xD800 to 0xDFFF) high → In (0xE0 to 0xEF) (getD s 0 0)
+    → high ≡ (getD s 0 0 - 0xE0) * 0x1000 + (getD s 1 0 - 0x80) * 0x40 + (getD s 2 0 - 0x80) → (6 ≤ length s → Pair s → ⊥) → Tells Cesu s 0 0
+lost-pair s high p q e n = lost-three Cesu s q (λ c l h g. cesu-surrogate c (omega arith) g) (λ l h g. n l h)

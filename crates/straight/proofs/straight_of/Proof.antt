@@ -26,6 +26,9 @@ returns-3 c = let a = from-a (c .before .before .before) .args in c .found3 .ens
 returns-4 : tie.Need-returns-4
 returns-4 c = let a = from-a (c .before .before .before .before) .args in c .two .ensures (a .form)
 
+three-requires : tie.Need-three-requires
+three-requires c κs = omega (arith, c .before .before .before .before .shared-slice-known2 .given 0)
+
 four-requires : tie.Need-four-requires
 four-requires c κs = omega (arith, c .before .before .before .before .shared-slice-known2 .given 0)
 
@@ -43,7 +46,7 @@ straight-of-spec =
     returns-3
     (λ c κs. search needs)
     returns-4
-    (λ c κs. search needs)
-    (λ c. search needs)
     four-requires
+    (λ c. search needs)
+    three-requires
     (λ c. search needs))

@@ -1,8 +1,12 @@
 -- Assumes nothing.
-use mathlib.Core.Path.{_∙_}
+use mathlib.Core.Path.{_≡_, sym, _∙_, subst}
 use native.Mathlib.Omega.{arith}
 use borrow.Author.Needs.{needs}
-use Rattle.straight.proofs.Shapes.{lost-three, found-three, has-low, has-high, surro-all, plain-surrogate, cesu-surrogate}
+use Rattle.form.specs.Scan.{scan}
+use Rattle.forms.specs.declared.Form.{Form}
+use Rattle.forms.specs.Forms.{rowsOf}
+use Rattle.straight.specs.Straight.{straightOf}
+use Rattle.straight.proofs.Shapes.{lost-three, found-three, has-low, has-high, surro-all, plain-surrogate, plain-unpaired}
 use Rattle.straight.proofs.three.Statement.{statement}
 use Rattle.straight.proofs.three.Tie as tie
 
@@ -17,22 +21,22 @@ abbrev from-code : tie.After-code3 → tie.Start
 from-code c = from-c (c .before .before .before .before)
 
 returns : tie.Need-returns
-returns c = let a = c .before .before .before .args in c .found .ensures ∙ lost-three (a .form) (a .s .now) (omega arith) (λ x l h g. omega arith)
+returns c = let a = c .before .before .before .args in c .found .ensures ∙ lost-three (a .form) (a .s .now) (omega arith) (λ x l h g. omega arith) (λ l h g. omega arith)
 
 returns-2 : tie.Need-returns-2
-returns-2 c = let a = from-b (c .before .before) .args in c .found2 .ensures ∙ lost-three (a .form) (a .s .now) (omega arith) (λ x l h g. omega arith)
+returns-2 c = let a = from-b (c .before .before) .args in c .found2 .ensures ∙ lost-three (a .form) (a .s .now) (omega arith) (λ x l h g. omega arith) (λ l h g. omega arith)
 
 returns-3 : tie.Need-returns-3
-returns-3 c = let a = from-b (c .before .before .before) .args in c .found3 .ensures ∙ lost-three (a .form) (a .s .now) (omega arith) (λ x l h g. omega arith)
+returns-3 c = let a = from-b (c .before .before .before) .args in c .found3 .ensures ∙ lost-three (a .form) (a .s .now) (omega arith) (λ x l h g. omega arith) (λ l h g. omega arith)
 
 returns-4 : tie.Need-returns-4
-returns-4 c = let a = from-c (c .before .before) .args in c .found4 .ensures ∙ lost-three (a .form) (a .s .now) (omega arith) (λ x l h g. omega arith)
+returns-4 c = let a = from-c (c .before .before) .args in c .found4 .ensures ∙ lost-three (a .form) (a .s .now) (omega arith) (λ x l h g. omega arith) (λ l h g. omega arith)
 
 returns-5 : tie.Need-returns-5
-returns-5 c = let a = from-c (c .before .before .before) .args in c .found5 .ensures ∙ lost-three (a .form) (a .s .now) (omega arith) (λ x l h g. omega arith)
+returns-5 c = let a = from-c (c .before .before .before) .args in c .found5 .ensures ∙ lost-three (a .form) (a .s .now) (omega arith) (λ x l h g. omega arith) (λ l h g. omega arith)
 
 returns-6 : tie.Need-returns-6
-returns-6 c = let a = from-code (c .before .before) .args in c .found6 .ensures ∙ lost-three (a .form) (a .s .now) (omega arith) (λ x l h g. omega arith)
+returns-6 c = let a = from-code (c .before .before) .args in c .found6 .ensures ∙ lost-three (a .form) (a .s .now) (omega arith) (λ x l h g. omega arith) (λ l h g. omega arith)
 
 returns-7 : tie.Need-returns-7
 returns-7 c =
@@ -47,7 +51,7 @@ returns-8 c =
     c .found8 .ensures ∙ found-three (a .form) (a .s .now) x (omega arith) (omega arith) (has-high (a .form) x (omega arith) (omega arith))
 
 returns-9 : tie.Need-returns-9
-returns-9 c = let a = from-code (c .before .before .before .before .before .before) .args in c .found9 .ensures ∙ lost-three (a .form) (a .s .now) (omega arith) (λ x l h g. plain-surrogate (a .form) x (c .before .enum-told .given .1) (omega arith) g)
+returns-9 c = let a = from-code (c .before .before .before .before .before .before) .args in c .found9 .ensures ∙ lost-three (a .form) (a .s .now) (omega arith) (λ x l h g. plain-surrogate (a .form) x (c .before .enum-told .given .1) (omega arith) g) (λ l h g. plain-unpaired (a .form) (c .before .enum-told .given .1) g)
 
 returns-10 : tie.Need-returns-10
 returns-10 c =
@@ -56,7 +60,9 @@ returns-10 c =
     c .found10 .ensures ∙ found-three (a .form) (a .s .now) x (omega arith) (omega arith) (surro-all (a .form) x (c .before .enum-told2 .given .1) (omega arith))
 
 returns-11 : tie.Need-returns-11
-returns-11 c = let a = from-code (c .before .before .before .before .before .before) .args in c .found11 .ensures ∙ lost-three (a .form) (a .s .now) (omega arith) (λ x l h g. cesu-surrogate (a .form) x (c .before .enum-told3 .given .1) (omega arith) g)
+returns-11 c =
+    let a = from-code (c .before .before .before .before .before .before) .args in
+    subst (λ (x : Form). c .pair .result ≡ straightOf (scan (rowsOf x) (a .s .now))) (sym (c .before .enum-told3 .given .1)) (c .pair .ensures)
 
 pub three-spec : {M : Type 1} → statement M
 three-spec =
