@@ -1,15 +1,14 @@
 -- One item, through a local array z of which `room` places are lent, and the answer in a coding. Assumes nothing.
-use mathlib.Core.Path.{_≡_, refl, sym, ap, _∙_}
+use mathlib.Core.Path.{_≡_, refl, ap, _∙_}
 use mathlib.Core.Bool.{true, false}
 use mathlib.Core.List.{List, [], _∷_, _++_, append-assoc}
-use Prim.Native.Nat.{ℕ, suc, _+_, _/_, _≤_}
+use Prim.Native.Nat.{ℕ, _+_, _*_, _/_, _≤_}
 use native.Mathlib.Omega.{arith}
 use lib.ListN.{length, getD, take, drop}
 use lib.Seq.{length-take-le}
 use Rattle.numbers.specs.Number.{low-first, over}
 use Rattle.numbers.specs.Filled.{Filled}
 use Rattle.numbers.proofs.Filled.{filled-none, filled-put}
-use Rattle.numbers.proofs.Laws.{laid-length, laid-append}
 use Rattle.flags.specs.declared.Flags.{Flags}
 use Rattle.flags.specs.Number.{flagsOf}
 use Rattle.codings.specs.declared.Coding.{Coding}
@@ -19,13 +18,14 @@ use Rattle.readings.specs.Reading.{Reading, stopped, reading, decoding-in}
 use Rattle.readings.proofs.Readings.{accepted, refused-nothing}
 use Rattle.readings.proofs.Theorems.{reading-within}
 use Rattle.readings.proofs.Come.{Layout}
+use Rattle.read_leap_packed.proofs.Packed.{packed}
 use Rattle.reader.specs.declared.Decoded.{Decoded}
 use Rattle.reader.specs.Decoded.{decodedOf}
 use Rattle.reader.proofs.Onward.{Answers}
 use Rattle.quads.specs.Bytes.{laid}
 
-pub four-bytes : Layout laid 4
-four-bytes = record { empty = refl; lengths = laid-length 4; joins = laid-append 4 }
+pub four-bytes : Layout laid (λ n. n * 4)
+four-bytes = packed
 
 first : (cs rest : List ℕ) → length cs ≡ 1 → cs ≡ getD (cs ++ rest) 0 0 ∷ []
 first [] rest e = absurd (omega arith)

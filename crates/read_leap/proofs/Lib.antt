@@ -1,1 +1,3 @@
-pub mod Leap
+pub mod Pieces
+pub mod Four
+pub mod Way

@@ -1,7 +1,224 @@
-// The reader's leap: what needs no care is read in a straight line.
+// The reader's leap over codes: what needs no care is read in a straight line.
+use flags::Flags;
+use forms::Form;
+ghost use mathlib.Core.Path.{_≡_};
+ghost use mathlib.Core.Bool.{_&&_, _||_};
+ghost use mathlib.Core.List.{[], _∷_, _++_};
+ghost use Prim.Native.Nat.{_+_, _≤_, min};
+ghost use lib.Dec.{ltb};
+ghost use lib.ListN.{length, take, drop};
+ghost use Rattle.forms.specs.Forms.{rowsOf};
+ghost use Rattle.readings.specs.Come.{as-is, single, Singles, Onward};
+ghost use Rattle.read_leap.specs.Leap.{Sequenced, Strays};
+
+// Where fewer bytes are left, a run is read byte by byte: a short line is not worth more.
+pub const MANY: usize = 32;
 
 // Places in the bytes and in the codes.
 pub struct Leapt {
     pub at: usize,
     pub n: usize,
+}
+
+// The lesser of two counts.
+pub fn lesser(a: usize, b: usize) -> usize
+    ensures { λ r. ⌜ r ≡ min a b ⌝ }
+{
+    if a < b { a } else { b }
+}
+
+// The code of an ASCII byte.
+pub fn wide(b: u8) -> u32
+    ensures { λ r. ⌜ r ≡ b ⌝ }
+{
+    b as u32
+}
+
+// The code of a byte that is read by itself.
+pub fn single_of(b: u8) -> u32
+    ensures { λ r. ⌜ r ≡ single b ⌝ }
+{
+    if b < 0x80 {
+        b as u32
+    } else {
+        0xDC00 + b as u32
+    }
+}
+
+// Whether four bytes are ASCII.
+pub fn all_ascii(a: u8, b: u8, c: u8, d: u8) -> bool
+    ensures { λ r. ⌜ r ≡ (ltb a 0x80 && ltb b 0x80 && ltb c 0x80 && ltb d 0x80) ⌝ }
+{
+    if 0x80 <= a {
+        return false;
+    }
+    if 0x80 <= b {
+        return false;
+    }
+    if 0x80 <= c {
+        return false;
+    }
+    d < 0x80
+}
+
+// With STRICT or SHOW a bad byte does not become an escape.
+pub fn careful(m: Flags) -> bool
+    ensures { λ r. ⌜ r ≡ m .strict || m .show ⌝ }
+{
+    if m.strict {
+        return true;
+    }
+    m.show
+}
+
+// ASCII byte by byte.
+fn ones(s: &[u8], codes: &mut [u32]) -> usize
+    ensures { λ r. ⌜ Singles as-is 0x80 0 (now (s .entry)) (now (codes .entry)) (now (codes .exit)) r ⌝ }
+{
+    let end = lesser(s.len(), codes.len());
+    let mut n: usize = 0;
+    while n < end {
+        let b = s[n];
+        if 0x80 <= b {
+            return n;
+        }
+        codes[n] = wide(b);
+        n += 1;
+    }
+    n
+}
+
+fn put_four(codes: &mut [u32], at: usize, a: u8, b: u8, c: u8, d: u8)
+    requires { ⌜ at + 4 ≤ length (now codes) ⌝ }
+    ensures { λ _. ⌜ now (codes .exit) ≡ take at (now (codes .entry)) ++ (a ∷ b ∷ c ∷ d ∷ []) ++ drop (at + 4) (now (codes .entry)) ⌝ }
+{
+    codes[at] = a as u32;
+    codes[at + 1] = b as u32;
+    codes[at + 2] = c as u32;
+    codes[at + 3] = d as u32;
+}
+
+// An ASCII byte, and then four at a time.
+fn fours(s: &[u8], codes: &mut [u32]) -> usize
+    ensures { λ r. ⌜ Singles as-is 0x80 0 (now (s .entry)) (now (codes .entry)) (now (codes .exit)) r ⌝ }
+{
+    let end = lesser(s.len(), codes.len());
+    if end == 0 {
+        return 0;
+    }
+    let first = s[0];
+    if 0x80 <= first {
+        return 0;
+    }
+    codes[0] = wide(first);
+    let mut n: usize = 1;
+    'blocks: while 4 <= end - n {
+        let a = s[n];
+        let b = s[n + 1];
+        let c = s[n + 2];
+        let d = s[n + 3];
+        if all_ascii(a, b, c, d) {
+            put_four(codes, n, a, b, c, d);
+            n += 4;
+            continue 'blocks;
+        }
+        return n;
+    }
+    n
+}
+
+// ASCII from the front on, if not all of it.
+fn ascii(s: &[u8], codes: &mut [u32]) -> usize
+    ensures { λ r. ⌜ Singles as-is 0x80 0 (now (s .entry)) (now (codes .entry)) (now (codes .exit)) r ⌝ }
+{
+    if s.len() < MANY {
+        return ones(s, codes);
+    }
+    fours(s, codes)
+}
+
+// A byte, and those behind it that begin no sequence of more bytes, each by itself; not ED, where a surrogate pair may begin.
+fn strays(s: &[u8], codes: &mut [u32]) -> usize
+    ensures { λ r. ⌜ Strays as-is (now (s .entry)) (now (codes .entry)) (now (codes .exit)) r ⌝ }
+{
+    if s.len() < 4 {
+        return 0;
+    }
+    if codes.len() < 1 {
+        return 0;
+    }
+    let first = s[0];
+    if first == 0xED {
+        return 0;
+    }
+    let end = lesser(s.len(), codes.len());
+    codes[0] = single_of(first);
+    let mut n: usize = 1;
+    while n < end {
+        let b = s[n];
+        if 0xC2 <= b {
+            return n;
+        }
+        codes[n] = single_of(b);
+        n += 1;
+    }
+    n
+}
+
+// A sequence in a straight line, where there is room for its code: how many bytes it takes.
+fn sequence(form: Form, s: &[u8], codes: &mut [u32]) -> usize
+    ensures { λ r. ⌜ Sequenced as-is 1 (rowsOf form) (now (s .entry)) (now (codes .entry)) (now (codes .exit)) r ⌝ }
+{
+    if codes.len() < 1 {
+        return 0;
+    }
+    let q = straight::straight_of(form, s);
+    if q.len == 0 {
+        return 0;
+    }
+    codes[0] = q.code;
+    q.len
+}
+
+// From one place to another: runs of ASCII, sequences, and without STRICT and SHOW bad bytes. What is left for care are the last bytes, where a sequence may
+// be cut, what STRICT and SHOW ask for, and surrogate pairs.
+pub fn leap(form: Form, m: Flags, s: &[u8], start: usize, codes: &mut [u32], begun: usize) -> Leapt
+    ensures { λ r. ⌜ Onward as-is (rowsOf form) m (now (s .entry)) (now (codes .entry)) (now (codes .exit)) start begun (r .at) (r .n) ⌝ }
+{
+    let mut at = start;
+    let mut n = begun;
+    if codes.len() < n {
+        return Leapt { at, n };
+    }
+    let care = careful(m);
+    'places: loop {
+        if s.len() <= at {
+            break 'places;
+        }
+        if s[at] < 0x80 {
+            let run = ascii(&s[at..], &mut codes[n..]);
+            at += run;
+            n += run;
+            if run == 0 {
+                break 'places;
+            }
+            continue 'places;
+        }
+        let len = sequence(form, &s[at..], &mut codes[n..]);
+        if len != 0 {
+            at += len;
+            n += 1;
+            continue 'places;
+        }
+        if care {
+            break 'places;
+        }
+        let run = strays(&s[at..], &mut codes[n..]);
+        at += run;
+        n += run;
+        if run == 0 {
+            break 'places;
+        }
+    }
+    Leapt { at, n }
 }

@@ -3,24 +3,13 @@ use flags::Flags;
 use forms::Form;
 pub use read_leap::Leapt;
 ghost use mathlib.Core.Path.{_≡_};
-ghost use mathlib.Core.Bool.{_&&_, _||_};
 ghost use mathlib.Core.List.{[], _∷_, _++_};
-ghost use Prim.Native.Nat.{_+_, _≤_, min};
-ghost use lib.Dec.{ltb};
+ghost use Prim.Native.Nat.{_+_, _≤_};
 ghost use lib.ListN.{length, take, drop};
 ghost use Rattle.numbers.specs.Number.{laid-in};
 ghost use Rattle.forms.specs.Forms.{rowsOf};
-ghost use Rattle.readings.specs.Come.{single, Singles, Onward};
+ghost use Rattle.readings.specs.Come.{Singles, Onward};
 ghost use Rattle.read_leap.specs.Leap.{Sequenced, Strays};
-
-// Where fewer bytes are left, a run is read byte by byte: a short line is not worth more.
-const MANY: usize = 32;
-
-fn lesser(a: usize, b: usize) -> usize
-    ensures { λ r. ⌜ r ≡ min a b ⌝ }
-{
-    if a < b { a } else { b }
-}
 
 fn put(out: &mut [u8], at: usize, x: u32)
     requires { ⌜ at + 4 ≤ length (now out) ⌝ }
@@ -32,60 +21,28 @@ fn put(out: &mut [u8], at: usize, x: u32)
     out[at + 3] = (x / 256 / 256 / 256 % 256) as u8;
 }
 
-// The code of a byte that is read by itself.
-fn single_of(b: u8) -> u32
-    ensures { λ r. ⌜ r ≡ single b ⌝ }
-{
-    if b < 0x80 {
-        b as u32
-    } else {
-        0xDC00 + b as u32
-    }
-}
-
-fn wide(b: u8) -> u32
-    ensures { λ r. ⌜ r ≡ b ⌝ }
-{
-    b as u32
-}
-
 fn put_four(out: &mut [u8], at: usize, a: u8, b: u8, c: u8, d: u8)
     requires { ⌜ at + 16 ≤ length (now out) ⌝ }
     ensures { λ _. ⌜ now (out .exit) ≡ take at (now (out .entry)) ++ laid-in 4 (a ∷ b ∷ c ∷ d ∷ []) ++ drop (at + 16) (now (out .entry)) ⌝ }
 {
-    put(out, at, wide(a));
-    put(out, at + 4, wide(b));
-    put(out, at + 8, wide(c));
-    put(out, at + 12, wide(d));
-}
-
-fn all_ascii(a: u8, b: u8, c: u8, d: u8) -> bool
-    ensures { λ r. ⌜ r ≡ (ltb a 0x80 && ltb b 0x80 && ltb c 0x80 && ltb d 0x80) ⌝ }
-{
-    if 0x80 <= a {
-        return false;
-    }
-    if 0x80 <= b {
-        return false;
-    }
-    if 0x80 <= c {
-        return false;
-    }
-    d < 0x80
+    put(out, at, read_leap::wide(a));
+    put(out, at + 4, read_leap::wide(b));
+    put(out, at + 8, read_leap::wide(c));
+    put(out, at + 12, read_leap::wide(d));
 }
 
 // ASCII byte by byte.
 fn ones(s: &[u8], codes: &mut [u8]) -> usize
     ensures { λ r. ⌜ Singles (laid-in 4) 0x80 0 (now (s .entry)) (now (codes .entry)) (now (codes .exit)) r ⌝ }
 {
-    let end = lesser(s.len(), codes.len() / 4);
+    let end = read_leap::lesser(s.len(), codes.len() / 4);
     let mut n: usize = 0;
     while n < end {
         let b = s[n];
         if 0x80 <= b {
             return n;
         }
-        put(codes, n * 4, wide(b));
+        put(codes, n * 4, read_leap::wide(b));
         n += 1;
     }
     n
@@ -95,7 +52,7 @@ fn ones(s: &[u8], codes: &mut [u8]) -> usize
 fn fours(s: &[u8], codes: &mut [u8]) -> usize
     ensures { λ r. ⌜ Singles (laid-in 4) 0x80 0 (now (s .entry)) (now (codes .entry)) (now (codes .exit)) r ⌝ }
 {
-    let end = lesser(s.len(), codes.len() / 4);
+    let end = read_leap::lesser(s.len(), codes.len() / 4);
     if end == 0 {
         return 0;
     }
@@ -103,14 +60,14 @@ fn fours(s: &[u8], codes: &mut [u8]) -> usize
     if 0x80 <= first {
         return 0;
     }
-    put(codes, 0, wide(first));
+    put(codes, 0, read_leap::wide(first));
     let mut n: usize = 1;
     'blocks: while 4 <= end - n {
         let a = s[n];
         let b = s[n + 1];
         let c = s[n + 2];
         let d = s[n + 3];
-        if all_ascii(a, b, c, d) {
+        if read_leap::all_ascii(a, b, c, d) {
             put_four(codes, n * 4, a, b, c, d);
             n += 4;
             continue 'blocks;
@@ -124,7 +81,7 @@ fn fours(s: &[u8], codes: &mut [u8]) -> usize
 fn ascii(s: &[u8], codes: &mut [u8]) -> usize
     ensures { λ r. ⌜ Singles (laid-in 4) 0x80 0 (now (s .entry)) (now (codes .entry)) (now (codes .exit)) r ⌝ }
 {
-    if s.len() < MANY {
+    if s.len() < read_leap::MANY {
         return ones(s, codes);
     }
     fours(s, codes)
@@ -144,15 +101,15 @@ fn strays(s: &[u8], codes: &mut [u8]) -> usize
     if first == 0xED {
         return 0;
     }
-    let end = lesser(s.len(), codes.len() / 4);
-    put(codes, 0, single_of(first));
+    let end = read_leap::lesser(s.len(), codes.len() / 4);
+    put(codes, 0, read_leap::single_of(first));
     let mut n: usize = 1;
     while n < end {
         let b = s[n];
         if 0xC2 <= b {
             return n;
         }
-        put(codes, n * 4, single_of(b));
+        put(codes, n * 4, read_leap::single_of(b));
         n += 1;
     }
     n
@@ -173,16 +130,6 @@ fn sequence(form: Form, s: &[u8], codes: &mut [u8]) -> usize
     q.len
 }
 
-// With STRICT or SHOW a bad byte does not become an escape.
-fn careful(m: Flags) -> bool
-    ensures { λ r. ⌜ r ≡ m .strict || m .show ⌝ }
-{
-    if m.strict {
-        return true;
-    }
-    m.show
-}
-
 // From one place to another: runs of ASCII, sequences, and without STRICT and SHOW bad bytes. What is left for care are the last bytes, where a sequence may
 // be cut, what STRICT and SHOW ask for, and surrogate pairs.
 pub fn leap(form: Form, m: Flags, s: &[u8], start: usize, codes: &mut [u8], begun: usize) -> Leapt
@@ -193,7 +140,7 @@ pub fn leap(form: Form, m: Flags, s: &[u8], start: usize, codes: &mut [u8], begu
     if codes.len() / 4 < n {
         return Leapt { at, n };
     }
-    let care = careful(m);
+    let care = read_leap::careful(m);
     'places: loop {
         if s.len() <= at {
             break 'places;

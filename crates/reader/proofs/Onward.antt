@@ -1,11 +1,11 @@
 -- The reader called for what is left, an item at a time. Assumes nothing.
 use mathlib.Core.Path.{_≡_, refl, sym, ap, _∙_, subst}
 use mathlib.Core.Logic.{_⊎_}
-use mathlib.Core.List.{List, [], _++_, append-nil}
-use Prim.Native.Nat.{ℕ, _+_, _-_, _*_, _≤_, _<_, min}
+use mathlib.Core.List.{List, _++_, append-nil}
+use Prim.Native.Nat.{ℕ, _+_, _-_, _≤_, _<_, min}
 use native.Mathlib.Nat.{add-zero}
 use native.Mathlib.Omega.{arith}
-use lib.ListN.{length, take, drop, length-append, length-drop}
+use lib.ListN.{length, take, drop, length-append}
 use borrow.Rule.Slice.PartAt.{part-to-end}
 use borrow.Rule.Slice.PartMut.{midOf, putMid}
 use Rattle.numbers.specs.Number.{over}
@@ -32,7 +32,7 @@ pub record Item (lay : List ℕ → List ℕ) (F : Form) (m : Flags) (room : ℕ
       → Answers lay F m room s d₀ d (record { number = q .number; consumed = at + q .consumed; produced = n + q .produced; subpart = q .subpart })
   pub goes-on : q .number ≡ 1 → (n + q .produced ≡ room → ⊥) → Come lay F m s d₀ d (at + q .consumed) (n + q .produced) × (n < n + q .produced)
 
-module _ {lay : List ℕ → List ℕ} {w : ℕ} (L : Layout lay w) {F : Form} {m : Flags} {s d₀ d : List ℕ} {at n : ℕ} (r : Come lay F m s d₀ d at n) (room : ℕ)
+module _ {lay : List ℕ → List ℕ} {w : ℕ → ℕ} (L : Layout lay w) {F : Form} {m : Flags} {s d₀ d : List ℕ} {at n : ℕ} (r : Come lay F m s d₀ d at n) (room : ℕ)
     (h : n ≤ room)
   where
     -- where no bytes are left the reading has ended
@@ -61,11 +61,11 @@ module _ {lay : List ℕ → List ℕ} {w : ℕ} (L : Layout lay w) {F : Form} {
           goes-on = λ e g. (c, omega (arith, reading-full-up F m a (drop at s) e .0));
         }
 
-    -- into a part of the buffer, `&mut d[n * w..]`, that was lent
+    -- into a part of the buffer, `&mut d[w n..]`, that was lent
     pub item-lent : (k : ℕ) → k ≡ a → (q : Decoded) (p : List ℕ) → q ≡ decodedOf (reading F m k (take (length s - at) (drop at s)))
-        → Filled (midOf (n * w) (length d - n * w) d) p (lay (reading F m k (take (length s - at) (drop at s)) .codes))
-        → Item lay F m room s d₀ (putMid (n * w) (length d - n * w) d p) at n q
+        → Filled (midOf (w n) (length d - w n) d) p (lay (reading F m k (take (length s - at) (drop at s)) .codes))
+        → Item lay F m room s d₀ (putMid (w n) (length d - w n) d p) at n q
     item-lent k i q p e f =
         let l : reading F m k (take (length s - at) (drop at s)) ≡ R = ap (reading F m k) (part-to-end s at) ∙ ap (λ (x : ℕ). reading F m x (drop at s)) i in
-        let o = item (putMid (n * w) (length d - n * w) d p) (come-lent L r (R .codes) p (subst (λ (X : Reading). Filled (midOf (n * w) (length d - n * w) d) p (lay (X .codes))) l f)) in
-        subst (Item lay F m room s d₀ (putMid (n * w) (length d - n * w) d p) at n) (sym (e ∙ ap decodedOf l)) o
+        let o = item (putMid (w n) (length d - w n) d p) (come-lent L r (R .codes) p (subst (λ (X : Reading). Filled (midOf (w n) (length d - w n) d) p (lay (X .codes))) l f)) in
+        subst (Item lay F m room s d₀ (putMid (w n) (length d - w n) d p) at n) (sym (e ∙ ap decodedOf l)) o

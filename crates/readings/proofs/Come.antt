@@ -3,7 +3,7 @@ use mathlib.Core.Path.{_≡_, refl, sym, ap, _∙_}
 use mathlib.Core.Logic.{_⊎_, inl, inr}
 use mathlib.Core.Bool.{false}
 use mathlib.Core.List.{List, [], _∷_, _++_, map, map-append}
-use Prim.Native.Nat.{ℕ, zero, suc, _+_, _-_, _*_, _≤_, _<_}
+use Prim.Native.Nat.{ℕ, zero, suc, _+_, _-_, _≤_, _<_}
 use native.Mathlib.Nat.{zero-add, add-zero}
 use native.Mathlib.Omega.{arith}
 use native.Mathlib.Decide.{decLe}
@@ -18,8 +18,8 @@ use Rattle.flags.specs.declared.Flags.{Flags}
 use Rattle.form.specs.Table.{Form}
 use Rattle.form.specs.Scan.{well, bad, scan}
 use Rattle.form.specs.Text.{escape}
-use Rattle.readings.specs.Reading.{stop, convert, turn, Reading, stopped, follow, reading}
-use Rattle.readings.specs.Come.{Converts, Come, Onward, single, Singles}
+use Rattle.readings.specs.Reading.{convert, turn, stopped, follow, reading}
+use Rattle.readings.specs.Come.{as-is, Converts, Come, Onward, single, Singles}
 use Rattle.readings.proofs.Readings.{reading-stop, reading-convert, follow-follow, follow-none, turn-found, turn-within, by-places}
 use Rattle.readings.proofs.Theorems.{resume, reading-within, reading-more}
 
@@ -68,35 +68,40 @@ single-escape b h = rw (le-ltb b 0x80 h) refl
 
 -- ---- codes in a buffer
 
--- places of w cells for each code
-pub record Layout (lay : List ℕ → List ℕ) (w : ℕ) : Type 0 where
+-- n codes take w n cells
+pub record Layout (lay : List ℕ → List ℕ) (w : ℕ → ℕ) : Type 0 where
   pub empty : lay [] ≡ []
-  pub lengths : (l : List ℕ) → length (lay l) ≡ length l * w
+  pub lengths : (l : List ℕ) → length (lay l) ≡ w (length l)
+  pub adds : (n i : ℕ) → w (n + i) ≡ w n + w i
   pub joins : (a b : List ℕ) → lay (a ++ b) ≡ lay a ++ lay b
 
-module _ {lay : List ℕ → List ℕ} {w : ℕ} (L : Layout lay w) where
+-- a code is one cell
+pub cells : Layout as-is (λ n. n)
+cells = record { empty = refl; lengths = λ l. refl; adds = λ n i. refl; joins = λ a b. refl }
+
+module _ {lay : List ℕ → List ℕ} {w : ℕ → ℕ} (L : Layout lay w) where
   pub come-start : (F : Form) (m : Flags) (s d : List ℕ) → Come lay F m s d d 0 0
   come-start F m s d = record { codes = []; count = refl; converts = converts-none F m s; filled = rw (L .empty) (filled-none d) }
 
   module _ {F : Form} {m : Flags} {s d₀ d : List ℕ} {at n : ℕ} (r : Come lay F m s d₀ d at n) where
-    size : length (lay (r .codes)) ≡ n * w
-    size = L .lengths (r .codes) ∙ ap (λ (k : ℕ). k * w) (r .count)
+    size : length (lay (r .codes)) ≡ w n
+    size = L .lengths (r .codes) ∙ ap w (r .count)
 
     pub come-same : length d ≡ length d₀
     come-same = filled-same d₀ d (lay (r .codes)) (r .filled)
 
-    pub come-room : n * w ≤ length d₀
+    pub come-room : w n ≤ length d₀
     come-room = rw (← size) (r .filled .fits)
 
     -- a code is put
-    pub come-put : (c k : ℕ) (p : List ℕ) → turn F m (drop at s) ≡ convert c k → n * w + length (lay (c ∷ [])) ≤ length d₀
-        → p ≡ take (n * w) d ++ lay (c ∷ []) ++ drop (n * w + length (lay (c ∷ []))) d → Come lay F m s d₀ p (at + k) (n + 1)
+    pub come-put : (c k : ℕ) (p : List ℕ) → turn F m (drop at s) ≡ convert c k → w n + length (lay (c ∷ [])) ≤ length d₀
+        → p ≡ take (w n) d ++ lay (c ∷ []) ++ drop (w n + length (lay (c ∷ []))) d → Come lay F m s d₀ p (at + k) (n + 1)
     come-put c k p e h q =
         record {
           codes = r .codes ++ (c ∷ []);
           count = length-append (r .codes) (c ∷ []) ∙ omega (arith, r .count);
           converts = converts-on F m s (r .codes) (c ∷ []) at k (r .converts) (converts-one F m (drop at s) c k e);
-          filled = rw (L .joins (r .codes) (c ∷ [])) (filled-put d₀ d (lay (r .codes)) (r .filled) (n * w) size (lay (c ∷ [])) p h q);
+          filled = rw (L .joins (r .codes) (c ∷ [])) (filled-put d₀ d (lay (r .codes)) (r .filled) (w n) size (lay (c ∷ [])) p h q);
         }
 
     -- ---- how it ends
@@ -137,15 +142,15 @@ module _ {lay : List ℕ → List ℕ} {w : ℕ} (L : Layout lay w) where
         }
 
     -- and stand in a part of the buffer that was lent
-    pub come-lent : (l p : List ℕ) → Filled (midOf (n * w) (length d - n * w) d) p (lay l) → Filled d₀ (putMid (n * w) (length d - n * w) d p) (lay (r .codes ++ l))
+    pub come-lent : (l p : List ℕ) → Filled (midOf (w n) (length d - w n) d) p (lay l) → Filled d₀ (putMid (w n) (length d - w n) d p) (lay (r .codes ++ l))
     come-lent l p f =
-        let o = filled-part d₀ d (lay (r .codes)) (r .filled) (n * w) size in
-        let h : length (lay l) ≤ length d₀ - n * w = omega (arith, f .fits, ap length o, length-drop (n * w) d₀) in
-        rw (L .joins (r .codes) l) (filled-more d₀ d (lay (r .codes)) (r .filled) (n * w) size (lay l) p h (f .front))
+        let o = filled-part d₀ d (lay (r .codes)) (r .filled) (w n) size in
+        let h : length (lay l) ≤ length d₀ - w n = omega (arith, f .fits, ap length o, length-drop (w n) d₀) in
+        rw (L .joins (r .codes) l) (filled-more d₀ d (lay (r .codes)) (r .filled) (w n) size (lay l) p h (f .front))
 
-    -- a part of the buffer, `&mut d[n * w..]`, was lent with the bytes from `at` on
-    pub come-part : (p : List ℕ) (j i : ℕ) → Come lay F m (take (length s - at) (drop at s)) (midOf (n * w) (length d - n * w) d) p j i
-        → Come lay F m s d₀ (putMid (n * w) (length d - n * w) d p) (at + j) (n + i)
+    -- a part of the buffer, `&mut d[w n..]`, was lent with the bytes from `at` on
+    pub come-part : (p : List ℕ) (j i : ℕ) → Come lay F m (take (length s - at) (drop at s)) (midOf (w n) (length d - w n) d) p j i
+        → Come lay F m s d₀ (putMid (w n) (length d - w n) d p) (at + j) (n + i)
     come-part p j i q =
         record {
           codes = r .codes ++ q .codes;
@@ -160,17 +165,17 @@ module _ {lay : List ℕ → List ℕ} {w : ℕ} (L : Layout lay w) where
   onward-start F m s d at n = record { same = refl; forth = omega arith; keeps = λ z r. r }
 
   module _ {F : Form} {m : Flags} {s d₀ d : List ℕ} {at₀ n₀ at n : ℕ} (o : Onward lay F m s d₀ d at₀ n₀ at n) where
-    pub onward-part : (p : List ℕ) (j i : ℕ) → Come lay F m (take (length s - at) (drop at s)) (midOf (n * w) (length d - n * w) d) p j i
-        → Onward lay F m s d₀ (putMid (n * w) (length d - n * w) d p) at₀ n₀ (at + j) (n + i)
+    pub onward-part : (p : List ℕ) (j i : ℕ) → Come lay F m (take (length s - at) (drop at s)) (midOf (w n) (length d - w n) d) p j i
+        → Onward lay F m s d₀ (putMid (w n) (length d - w n) d p) at₀ n₀ (at + j) (n + i)
     onward-part p j i q =
         record {
-          same = same-len-mid (n * w) (length d - n * w) d p (come-same q) ∙ o .same;
+          same = same-len-mid (w n) (length d - w n) d p (come-same q) ∙ o .same;
           forth = omega (arith, o .forth);
           keeps = λ z r. come-part (o .keeps z r) p j i q;
         }
 
     -- a part that comes back as it was
-    pub onward-none : (p : List ℕ) → p ≡ midOf (n * w) (length d - n * w) d → Onward lay F m s d₀ (putMid (n * w) (length d - n * w) d p) at₀ n₀ at n
+    pub onward-none : (p : List ℕ) → p ≡ midOf (w n) (length d - w n) d → Onward lay F m s d₀ (putMid (w n) (length d - w n) d p) at₀ n₀ at n
     onward-none p e = rw (add-zero at, add-zero n) at (onward-part p 0 0 (rw (← e) (come-start F m _ p)))
 
   -- ---- bytes that are read one by one
@@ -179,19 +184,19 @@ module _ {lay : List ℕ → List ℕ} {w : ℕ} (L : Layout lay w) where
   singles-none limit i s d = record { within = omega arith; below = λ j g h. absurd (omega arith); filled = rw (L .empty) (filled-none d) }
 
   module _ {limit i : ℕ} {s d₀ d : List ℕ} {n : ℕ} (r : Singles lay limit i s d₀ d n) where
-    singled : length (lay (map single (take n s))) ≡ n * w
-    singled = L .lengths (map single (take n s)) ∙ ap (λ (k : ℕ). k * w) (length-map (take n s) single ∙ length-take-le n s (r .within))
+    singled : length (lay (map single (take n s))) ≡ w n
+    singled = L .lengths (map single (take n s)) ∙ ap w (length-map (take n s) single ∙ length-take-le n s (r .within))
 
     pub singles-same : length d ≡ length d₀
     singles-same = filled-same d₀ d (lay (map single (take n s))) (r .filled)
 
-    pub singles-room : n * w ≤ length d₀
+    pub singles-room : w n ≤ length d₀
     singles-room = rw (← singled) (r .filled .fits)
 
     -- the bytes v are put behind them
     pub singles-more : (v p : List ℕ) → n + length v ≤ length s → v ≡ take (length v) (drop n s)
         → ((j : ℕ) → i ≤ n + j → j < length v → getD v j 0 < limit)
-        → n * w + length (lay (map single v)) ≤ length d₀ → p ≡ take (n * w) d ++ lay (map single v) ++ drop (n * w + length (lay (map single v))) d
+        → w n + length (lay (map single v)) ≤ length d₀ → p ≡ take (w n) d ++ lay (map single v) ++ drop (w n + length (lay (map single v))) d
         → Singles lay limit i s d₀ p (n + length v)
     singles-more v p h e g l q =
         let t : take (n + length v) s ≡ take n s ++ v = take-add n (length v) s ∙ ap (λ (x : List ℕ). take n s ++ x) (sym e) in
@@ -201,7 +206,7 @@ module _ {lay : List ℕ → List ℕ} {w : ℕ} (L : Layout lay w) where
         record {
           within = h;
           below = below;
-          filled = rw u (filled-put d₀ d (lay (map single (take n s))) (r .filled) (n * w) singled (lay (map single v)) p l q);
+          filled = rw u (filled-put d₀ d (lay (map single (take n s))) (r .filled) (w n) singled (lay (map single v)) p l q);
         }
       where
         below : (j : ℕ) → i ≤ j → j < n + length v → getD s j 0 < limit
@@ -217,8 +222,8 @@ module _ {lay : List ℕ → List ℕ} {w : ℕ} (L : Layout lay w) where
                 rw (← x) (g (j - n) (omega arith) (omega arith))
 
     -- a byte is put
-    pub singles-put : (b x : ℕ) (p : List ℕ) → n < length s → b ≡ getD s n 0 → x ≡ single b → (i ≤ n → b < limit) → n * w + length (lay (x ∷ [])) ≤ length d₀
-        → p ≡ take (n * w) d ++ lay (x ∷ []) ++ drop (n * w + length (lay (x ∷ []))) d → Singles lay limit i s d₀ p (n + 1)
+    pub singles-put : (b x : ℕ) (p : List ℕ) → n < length s → b ≡ getD s n 0 → x ≡ single b → (i ≤ n → b < limit) → w n + length (lay (x ∷ [])) ≤ length d₀
+        → p ≡ take (w n) d ++ lay (x ∷ []) ++ drop (w n + length (lay (x ∷ []))) d → Singles lay limit i s d₀ p (n + 1)
     singles-put b x p h e u g l q =
         singles-more (b ∷ []) p (omega arith) (ap (λ (y : ℕ). y ∷ []) e ∙ sym (ap (take 1) (drop-cons s n 0 h))) (λ j c k. let z : j ≡ 0 = omega arith in rw z (g (omega arith)))
         (rw (← u) l) (rw (← u) q)

@@ -16,6 +16,10 @@ pub record Converts (F : Form) (m : Flags) (s codes : List ℕ) (k : ℕ) : Type
   pub within : k ≤ length s
   pub goes-on : (room : ℕ) → reading F m (length codes + room) s ≡ follow codes k (reading F m room (drop k s))
 
+-- codes in a buffer of codes: a code is one cell
+abbrev pub as-is : List ℕ → List ℕ
+as-is l = l
+
 -- n codes for the first `at` bytes of s stand at the front of a buffer that was d₀ and is d: `lay` gives what stands there for codes
 pub record Come (lay : List ℕ → List ℕ) (F : Form) (m : Flags) (s d₀ d : List ℕ) (at n : ℕ) : Type 0 where
   pub codes : List ℕ

@@ -36,7 +36,7 @@ returns-2 c =
     let r = c .before .before in
     let f = r .before .before in
     let a = start f .args in
-    rw (← is-decoding f (length (a .codes .now)) (a .s .now)) (r .read-as .ensures)
+    rw (← is-decoding f (length (a .codes .now)) (a .s .now)) (r .read .ensures)
 
 pub decode-in-spec : {M : Type 1} → statement M
 decode-in-spec = tie.close (tie.spec (λ c κs. search needs) returns (λ c κs. search needs) (λ c κs. search needs) (λ c κs. search needs) (λ c. search needs) returns-2)

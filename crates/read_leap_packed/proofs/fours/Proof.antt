@@ -8,7 +8,8 @@ use borrow.Author.Needs.{needs}
 use Rattle.numbers.specs.Number.{laid-in}
 use Rattle.readings.specs.Come.{Singles}
 use Rattle.readings.proofs.Come.{single-ascii, singles-none, singles-same, singles-put, singles-more}
-use Rattle.read_leap_packed.proofs.Packed.{packed, four-of, four-taken}
+use Rattle.read_leap.proofs.Four.{four-of, four-taken}
+use Rattle.read_leap_packed.proofs.Packed.{packed}
 use Rattle.read_leap_packed.proofs.fours.Statement.{statement}
 use Rattle.read_leap_packed.proofs.fours.Tie as tie
 
