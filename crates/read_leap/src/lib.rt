@@ -2,13 +2,11 @@
 use flags::Flags;
 use forms::Form;
 ghost use mathlib.Core.Path.{_≡_};
-ghost use mathlib.Core.Bool.{_&&_, _||_};
 ghost use mathlib.Core.List.{[], _∷_, _++_};
 ghost use Prim.Native.Nat.{_+_, _≤_, min};
-ghost use lib.Dec.{ltb};
 ghost use lib.ListN.{length, take, drop};
 ghost use Rattle.forms.specs.Forms.{rowsOf};
-ghost use Rattle.readings.specs.Come.{as-is, single, Singles, Onward};
+ghost use Rattle.readings.specs.Come.{as-is, Singles, Onward};
 ghost use Rattle.read_leap.specs.Leap.{Sequenced, Strays};
 
 // Where fewer bytes are left, a run is read byte by byte: a short line is not worth more.
@@ -20,55 +18,16 @@ pub struct Leapt {
     pub n: usize,
 }
 
-// The lesser of two counts.
-pub fn lesser(a: usize, b: usize) -> usize
+fn lesser(a: usize, b: usize) -> usize
     ensures { λ r. ⌜ r ≡ min a b ⌝ }
 {
     if a < b { a } else { b }
 }
 
-// The code of an ASCII byte.
-pub fn wide(b: u8) -> u32
+fn wide(b: u8) -> u32
     ensures { λ r. ⌜ r ≡ b ⌝ }
 {
     b as u32
-}
-
-// The code of a byte that is read by itself.
-pub fn single_of(b: u8) -> u32
-    ensures { λ r. ⌜ r ≡ single b ⌝ }
-{
-    if b < 0x80 {
-        b as u32
-    } else {
-        0xDC00 + b as u32
-    }
-}
-
-// Whether four bytes are ASCII.
-pub fn all_ascii(a: u8, b: u8, c: u8, d: u8) -> bool
-    ensures { λ r. ⌜ r ≡ (ltb a 0x80 && ltb b 0x80 && ltb c 0x80 && ltb d 0x80) ⌝ }
-{
-    if 0x80 <= a {
-        return false;
-    }
-    if 0x80 <= b {
-        return false;
-    }
-    if 0x80 <= c {
-        return false;
-    }
-    d < 0x80
-}
-
-// With STRICT or SHOW a bad byte does not become an escape.
-pub fn careful(m: Flags) -> bool
-    ensures { λ r. ⌜ r ≡ m .strict || m .show ⌝ }
-{
-    if m.strict {
-        return true;
-    }
-    m.show
 }
 
 // ASCII byte by byte.
@@ -117,7 +76,7 @@ fn fours(s: &[u8], codes: &mut [u32]) -> usize
         let b = s[n + 1];
         let c = s[n + 2];
         let d = s[n + 3];
-        if all_ascii(a, b, c, d) {
+        if alone::all_ascii(a, b, c, d) {
             put_four(codes, n, a, b, c, d);
             n += 4;
             continue 'blocks;
@@ -137,7 +96,7 @@ fn ascii(s: &[u8], codes: &mut [u32]) -> usize
     fours(s, codes)
 }
 
-// A byte, and those behind it that begin no sequence of more bytes, each by itself; not ED, where a surrogate pair may begin.
+// A byte, and those behind it that begin no sequence of more bytes, each by itself; not ED, where a surrogate pair may be cut.
 fn strays(s: &[u8], codes: &mut [u32]) -> usize
     ensures { λ r. ⌜ Strays as-is (now (s .entry)) (now (codes .entry)) (now (codes .exit)) r ⌝ }
 {
@@ -152,14 +111,14 @@ fn strays(s: &[u8], codes: &mut [u32]) -> usize
         return 0;
     }
     let end = lesser(s.len(), codes.len());
-    codes[0] = single_of(first);
+    codes[0] = alone::single_of(first);
     let mut n: usize = 1;
     while n < end {
         let b = s[n];
         if 0xC2 <= b {
             return n;
         }
-        codes[n] = single_of(b);
+        codes[n] = alone::single_of(b);
         n += 1;
     }
     n
@@ -180,8 +139,8 @@ fn sequence(form: Form, s: &[u8], codes: &mut [u32]) -> usize
     q.len
 }
 
-// From one place to another: runs of ASCII, sequences, and without STRICT and SHOW bad bytes. What is left for care are the last bytes, where a sequence may
-// be cut, what STRICT and SHOW ask for, and surrogate pairs.
+// From one place to another: runs of ASCII, sequences, and without STRICT and SHOW bad bytes. What is left for care: the last
+// bytes and ED, where a sequence may be cut, and what STRICT and SHOW ask for.
 pub fn leap(form: Form, m: Flags, s: &[u8], start: usize, codes: &mut [u32], begun: usize) -> Leapt
     ensures { λ r. ⌜ Onward as-is (rowsOf form) m (now (s .entry)) (now (codes .entry)) (now (codes .exit)) start begun (r .at) (r .n) ⌝ }
 {
@@ -190,7 +149,7 @@ pub fn leap(form: Form, m: Flags, s: &[u8], start: usize, codes: &mut [u32], beg
     if codes.len() < n {
         return Leapt { at, n };
     }
-    let care = careful(m);
+    let care = alone::careful(m);
     'places: loop {
         if s.len() <= at {
             break 'places;

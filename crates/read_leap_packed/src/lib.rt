@@ -4,12 +4,24 @@ use forms::Form;
 pub use read_leap::Leapt;
 ghost use mathlib.Core.Path.{_≡_};
 ghost use mathlib.Core.List.{[], _∷_, _++_};
-ghost use Prim.Native.Nat.{_+_, _≤_};
+ghost use Prim.Native.Nat.{_+_, _≤_, min};
 ghost use lib.ListN.{length, take, drop};
 ghost use Rattle.numbers.specs.Number.{laid-in};
 ghost use Rattle.forms.specs.Forms.{rowsOf};
 ghost use Rattle.readings.specs.Come.{Singles, Onward};
 ghost use Rattle.read_leap.specs.Leap.{Sequenced, Strays};
+
+fn lesser(a: usize, b: usize) -> usize
+    ensures { λ r. ⌜ r ≡ min a b ⌝ }
+{
+    if a < b { a } else { b }
+}
+
+fn wide(b: u8) -> u32
+    ensures { λ r. ⌜ r ≡ b ⌝ }
+{
+    b as u32
+}
 
 fn put(out: &mut [u8], at: usize, x: u32)
     requires { ⌜ at + 4 ≤ length (now out) ⌝ }
@@ -25,24 +37,24 @@ fn put_four(out: &mut [u8], at: usize, a: u8, b: u8, c: u8, d: u8)
     requires { ⌜ at + 16 ≤ length (now out) ⌝ }
     ensures { λ _. ⌜ now (out .exit) ≡ take at (now (out .entry)) ++ laid-in 4 (a ∷ b ∷ c ∷ d ∷ []) ++ drop (at + 16) (now (out .entry)) ⌝ }
 {
-    put(out, at, read_leap::wide(a));
-    put(out, at + 4, read_leap::wide(b));
-    put(out, at + 8, read_leap::wide(c));
-    put(out, at + 12, read_leap::wide(d));
+    put(out, at, wide(a));
+    put(out, at + 4, wide(b));
+    put(out, at + 8, wide(c));
+    put(out, at + 12, wide(d));
 }
 
 // ASCII byte by byte.
 fn ones(s: &[u8], codes: &mut [u8]) -> usize
     ensures { λ r. ⌜ Singles (laid-in 4) 0x80 0 (now (s .entry)) (now (codes .entry)) (now (codes .exit)) r ⌝ }
 {
-    let end = read_leap::lesser(s.len(), codes.len() / 4);
+    let end = lesser(s.len(), codes.len() / 4);
     let mut n: usize = 0;
     while n < end {
         let b = s[n];
         if 0x80 <= b {
             return n;
         }
-        put(codes, n * 4, read_leap::wide(b));
+        put(codes, n * 4, wide(b));
         n += 1;
     }
     n
@@ -52,7 +64,7 @@ fn ones(s: &[u8], codes: &mut [u8]) -> usize
 fn fours(s: &[u8], codes: &mut [u8]) -> usize
     ensures { λ r. ⌜ Singles (laid-in 4) 0x80 0 (now (s .entry)) (now (codes .entry)) (now (codes .exit)) r ⌝ }
 {
-    let end = read_leap::lesser(s.len(), codes.len() / 4);
+    let end = lesser(s.len(), codes.len() / 4);
     if end == 0 {
         return 0;
     }
@@ -60,14 +72,14 @@ fn fours(s: &[u8], codes: &mut [u8]) -> usize
     if 0x80 <= first {
         return 0;
     }
-    put(codes, 0, read_leap::wide(first));
+    put(codes, 0, wide(first));
     let mut n: usize = 1;
     'blocks: while 4 <= end - n {
         let a = s[n];
         let b = s[n + 1];
         let c = s[n + 2];
         let d = s[n + 3];
-        if read_leap::all_ascii(a, b, c, d) {
+        if alone::all_ascii(a, b, c, d) {
             put_four(codes, n * 4, a, b, c, d);
             n += 4;
             continue 'blocks;
@@ -87,7 +99,7 @@ fn ascii(s: &[u8], codes: &mut [u8]) -> usize
     fours(s, codes)
 }
 
-// A byte, and those behind it that begin no sequence of more bytes, each by itself; not ED, where a surrogate pair may begin.
+// A byte, and those behind it that begin no sequence of more bytes, each by itself; not ED, where a surrogate pair may be cut.
 fn strays(s: &[u8], codes: &mut [u8]) -> usize
     ensures { λ r. ⌜ Strays (laid-in 4) (now (s .entry)) (now (codes .entry)) (now (codes .exit)) r ⌝ }
 {
@@ -101,15 +113,15 @@ fn strays(s: &[u8], codes: &mut [u8]) -> usize
     if first == 0xED {
         return 0;
     }
-    let end = read_leap::lesser(s.len(), codes.len() / 4);
-    put(codes, 0, read_leap::single_of(first));
+    let end = lesser(s.len(), codes.len() / 4);
+    put(codes, 0, alone::single_of(first));
     let mut n: usize = 1;
     while n < end {
         let b = s[n];
         if 0xC2 <= b {
             return n;
         }
-        put(codes, n * 4, read_leap::single_of(b));
+        put(codes, n * 4, alone::single_of(b));
         n += 1;
     }
     n
@@ -130,8 +142,8 @@ fn sequence(form: Form, s: &[u8], codes: &mut [u8]) -> usize
     q.len
 }
 
-// From one place to another: runs of ASCII, sequences, and without STRICT and SHOW bad bytes. What is left for care are the last bytes, where a sequence may
-// be cut, what STRICT and SHOW ask for, and surrogate pairs.
+// From one place to another: runs of ASCII, sequences, and without STRICT and SHOW bad bytes. What is left for care: the last
+// bytes and ED, where a sequence may be cut, and what STRICT and SHOW ask for.
 pub fn leap(form: Form, m: Flags, s: &[u8], start: usize, codes: &mut [u8], begun: usize) -> Leapt
     ensures { λ r. ⌜ Onward (laid-in 4) (rowsOf form) m (now (s .entry)) (now (codes .entry)) (now (codes .exit)) start begun (r .at) (r .n) ⌝ }
 {
@@ -140,7 +152,7 @@ pub fn leap(form: Form, m: Flags, s: &[u8], start: usize, codes: &mut [u8], begu
     if codes.len() / 4 < n {
         return Leapt { at, n };
     }
-    let care = read_leap::careful(m);
+    let care = alone::careful(m);
     'places: loop {
         if s.len() <= at {
             break 'places;

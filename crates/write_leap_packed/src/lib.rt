@@ -2,12 +2,12 @@
 use flags::Flags;
 use forms::Form;
 ghost use mathlib.Core.Path.{_≡_};
-ghost use mathlib.Core.Bool.{false};
+ghost use mathlib.Core.Bool.{false, cond};
 ghost use mathlib.Core.List.{_++_};
 ghost use Prim.Native.Nat.{ℕ, _+_, _*_, _%_, _≤_, _<_, min};
 ghost use lib.ListN.{length, take, drop};
 ghost use Rattle.form.specs.Table.{Escape};
-ghost use Rattle.form.specs.Pattern.{pattern};
+ghost use Rattle.form.specs.Pattern.{pattern, cesu-pattern};
 ghost use Rattle.form.specs.Text.{sequence};
 ghost use Rattle.forms.specs.Forms.{rowsOf};
 ghost use Rattle.quads.specs.Bytes.{codesOf, quad};
@@ -72,6 +72,21 @@ fn put4(dst: &mut [u8], n: usize, c: u32)
     dst[n + 1] = mark(c / 0x1000);
     dst[n + 2] = mark(c / 0x40);
     dst[n + 3] = mark(c);
+}
+
+// A pair of surrogates: the marks ED, and the upper and the lower ten bits of what is above FFFF.
+fn put6(dst: &mut [u8], n: usize, c: u32)
+    requires { ⌜ (0x10000 ≤ c) × (c ≤ 0x10FFFF) × (n + 6 ≤ length (now dst)) ⌝ }
+    ensures { λ _. ⌜ now (dst .exit) ≡ take n (now (dst .entry)) ++ cesu-pattern c ++ drop (n + 6) (now (dst .entry)) ⌝ }
+{
+    let upper = (c - 0x10000) / 0x400;
+    let lower = (c - 0x10000) % 0x400;
+    dst[n] = 0xED;
+    dst[n + 1] = (0xA0 + upper / 0x40) as u8;
+    dst[n + 2] = mark(upper);
+    dst[n + 3] = 0xED;
+    dst[n + 4] = (0xB0 + lower / 0x40) as u8;
+    dst[n + 5] = mark(lower);
 }
 
 // One of four codes is not ASCII.
@@ -196,7 +211,7 @@ fn careful(m: Flags) -> bool
 
 // The form writes a code above FFFF as a pair of surrogates.
 fn has_pairs(form: Form) -> bool
-    ensures { λ r. ⌜ (r ≡ false → (c : ℕ) → 0xFFFF < c → c ≤ 0x10FFFF → sequence (rowsOf form) c ≡ pattern c) ⌝ }
+    ensures { λ r. ⌜ ((c : ℕ) → 0xFFFF < c → c ≤ 0x10FFFF → sequence (rowsOf form) c ≡ cond r (cesu-pattern c) (pattern c)) ⌝ }
 {
     match form {
         Form::Plain => false,
@@ -211,8 +226,8 @@ pub struct Leapt {
     pub n: usize,
 }
 
-// From a place on, up to a code that is left to the writer: a surrogate that is not an escape, an escape with STRICT or SURRO, a pair, a code
-// above 10FFFF, or any where fewer than four bytes are free. Beyond the codes or the buffer it stays where it is.
+// From a place on, up to a code that is left to the writer: a surrogate that is not an escape, an escape with STRICT or SURRO, a code above
+// 10FFFF, or any where fewer than four bytes are free, for a pair six. Beyond the codes or the buffer it stays where it is.
 pub fn leap(form: Form, m: Flags, codes: &[u8], start: usize, dst: &mut [u8], begun: usize) -> Leapt
     ensures { λ r. ⌜ Onward (rowsOf form) m (codesOf (now (codes .entry))) (now (dst .entry)) (now (dst .exit)) start begun (r .at) (r .n) ⌝ }
 {
@@ -257,7 +272,13 @@ pub fn leap(form: Form, m: Flags, codes: &[u8], start: usize, dst: &mut [u8], be
                 break 'codes;
             }
             if has_pairs(form) {
-                break 'codes;
+                if dst.len() - n < 6 {
+                    break 'codes;
+                }
+                put6(dst, n, c);
+                n += 6;
+                at += 1;
+                continue 'codes;
             }
             put4(dst, n, c);
             n += 4;

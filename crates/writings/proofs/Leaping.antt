@@ -83,9 +83,9 @@ module _ {F : Form} {m : Flags} {l d₀ d : List ℕ} {at₀ n₀ at n : ℕ} (r
       leaping-short d′ k p g = leaping-put (pattern c) d′ k (λ t. writes-short F W m c t p g)
 
       -- and above
-      pub leaping-long : (d′ : List ℕ) → 0xFFFF < c → c ≤ 0x10FFFF → sequence F c ≡ pattern c → length (pattern c) ≡ 4 → n + 4 ≤ length d → d′ ≡ take n d ++ pattern c ++ drop (n + 4) d
-          → Leaping F m l d₀ d′ at₀ n₀ (at + 1) (n + 4)
-      leaping-long d′ p g z = leaping-put (pattern c) d′ 4 (λ t. writes-long F W m c t p g z)
+      pub leaping-long : (d′ v : List ℕ) (k : ℕ) → 0xFFFF < c → c ≤ 0x10FFFF → sequence F c ≡ v → length v ≡ k → n + k ≤ length d → d′ ≡ take n d ++ v ++ drop (n + k) d
+          → Leaping F m l d₀ d′ at₀ n₀ (at + 1) (n + k)
+      leaping-long d′ v k p g z = leaping-put v d′ k (λ t. writes-long F W m c t p g v z)
 
   -- over a run of codes of one byte each: by what it is lent, the codes t and `&mut d[n..]`
   module _ (P : ℕ → Type 0) (t p : List ℕ) (k : ℕ) (h : at ≤ length l) (e : t ≡ drop at l) (q : Singled P t (midOf n (length d - n) d) p k) where

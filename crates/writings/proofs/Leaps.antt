@@ -53,9 +53,9 @@ module _ (F : Form) {n : ℕ} (W : Writer F n) (m : Flags) (c : ℕ) (l : List �
   pub writes-short : c < 0x10000 → (In (0xD800 to 0xDFFF) c → ⊥) → Writes F m (c ∷ l) (pattern c) 1
   writes-short h g = is-written (pattern c) (not-surrogate m c (omega arith) g) (bytes-other F m c (λ u. g (omega arith)) ∙ W .low c h)
 
-  -- above, where the form has no pairs
-  pub writes-long : 0xFFFF < c → c ≤ 0x10FFFF → sequence F c ≡ pattern c → Writes F m (c ∷ l) (pattern c) 1
-  writes-long g h e = is-written (pattern c) (not-surrogate m c h (λ u. omega arith)) (bytes-other F m c (λ u. omega arith) ∙ own-rows F c (omega arith) ∙ e)
+  -- and above
+  pub writes-long : 0xFFFF < c → c ≤ 0x10FFFF → (v : List ℕ) → sequence F c ≡ v → Writes F m (c ∷ l) v 1
+  writes-long g h v e = is-written v (not-surrogate m c h (λ u. omega arith)) (bytes-other F m c (λ u. omega arith) ∙ own-rows F c (omega arith) ∙ e)
 
   pub writes-ascii : Ascii c → Writes F m (c ∷ l) (c % 256 ∷ []) 1
   writes-ascii h =

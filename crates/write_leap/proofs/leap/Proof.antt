@@ -7,6 +7,7 @@ use native.Mathlib.Omega.{arith}
 use lib.ListN.{length, getD, set, take, drop, length-set}
 use borrow.Author.Needs.{scaled-fits}
 use borrow.Rule.Slice.PartAt.{part-to-end}
+use Rattle.form.specs.Pattern.{pattern}
 use Rattle.forms.specs.Forms.{rowsOf}
 use Rattle.forms.proofs.Forms.{form-writer}
 use Rattle.writings.specs.Singled.{Ascii, Single}
@@ -116,7 +117,7 @@ codes-again-4 c =
     let d = c .before .before .before .before .before .before .before .before .before .before .before in
     let x = code d in
     let p = d .before in
-    leaping-long (p .before .before .codes .inv) x (some p) refl (form-writer (begin p .args .form)) _ (omega (arith, c .before .before .before .before .before .before .before .if6 .taken)) (omega (arith, c .before .before .before .before .before .before .if7 .left))
+    leaping-long (p .before .before .codes .inv) x (some p) refl (form-writer (begin p .args .form)) _ (pattern x) 4 (omega (arith, c .before .before .before .before .before .before .before .if6 .taken)) (omega (arith, c .before .before .before .before .before .before .if7 .left))
     (c .before .before .before .before .before .has-pairs .ensures (c .before .before .before .before .if8 .left) x (omega (arith, c .before .before .before .before .before .before .before .if6 .taken)) (omega (arith, c .before .before .before .before .before .before .if7 .left))) (ap length (pattern-four x (omega (arith, c .before .before .before .before .before .before .before .if6 .taken)))) (four p) (c .before .before .put4 .ensures)
 
 codes-again-5 : tie.Need-codes-again-5 Inv-codes μ-codes

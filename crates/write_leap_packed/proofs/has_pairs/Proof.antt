@@ -1,9 +1,9 @@
 -- Assumes nothing.
 use mathlib.Core.Logic.{inl, inr}
-use mathlib.Core.Bool.{true≢false}
 use native.Mathlib.Omega.{arith}
 use borrow.Author.Needs.{needs}
 use Rattle.form.proofs.Sequences.{plain-scalar, surro-all}
+use Rattle.form.proofs.Cesu.{cesu-scalar}
 use Rattle.write_leap_packed.proofs.has_pairs.Statement.{statement}
 use Rattle.write_leap_packed.proofs.has_pairs.Tie as tie
 
@@ -14,6 +14,6 @@ has-pairs-spec =
     (λ c. search needs)
     (λ c. search needs)
     (λ c. search needs)
-    (λ c e x h g. rw (c .enum-told .given .1) (plain-scalar x (inr (inl (omega arith)))))
-    (λ c e x h g. rw (c .enum-told2 .given .1) (surro-all x g))
-    (λ c e. absurd (true≢false e)))
+    (λ c x h g. rw (c .enum-told .given .1) (plain-scalar x (inr (inl (omega arith)))))
+    (λ c x h g. rw (c .enum-told2 .given .1) (surro-all x g))
+    (λ c x h g. rw (c .enum-told3 .given .1) (cesu-scalar x (inr (inl (omega arith))))))

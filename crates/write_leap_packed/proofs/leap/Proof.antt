@@ -1,10 +1,12 @@
 -- Each turn goes from a place to the next. Assumes nothing.
-use mathlib.Core.Path.{_≡_, refl, ap}
+use mathlib.Core.Path.{_≡_, refl, ap, _∙_}
 use mathlib.Core.Bool.{false}
 use mathlib.Core.List.{List}
 use Prim.Native.Nat.{ℕ, _+_, _-_, _*_, _/_, _≤_, _<_}
 use native.Mathlib.Omega.{arith}
 use lib.ListN.{length, getD, set, take, drop, length-set}
+use Rattle.form.specs.Pattern.{pattern, cesu-pattern}
+use Rattle.form.proofs.Cesu.{cesu-long}
 use Rattle.forms.specs.Forms.{rowsOf}
 use Rattle.forms.proofs.Forms.{form-writer}
 use Rattle.writings.specs.Singled.{Ascii, Single}
@@ -119,19 +121,33 @@ codes-again-3 c =
 
 codes-again-4 : tie.Need-codes-again-4 Inv-codes μ-codes
 codes-again-4 c =
-    let d = c .before .before .before .before .before .before .before .before .before .before .before in
+    let h = c .before .before .before .before .before .before in
+    let d = h .before .before .before .before .before .before in
     let x = d .code-at .result in
     let p = d .before in
-    leaping-long (p .before .before .codes .inv) x (some p) (is-code d) (form-writer (begin p .args .form)) _ (omega (arith, c .before .before .before .before .before .before .before .if6 .taken)) (omega (arith, c .before .before .before .before .before .before .if7 .left))
-    (c .before .before .before .before .before .has-pairs .ensures (c .before .before .before .before .if8 .left) x (omega (arith, c .before .before .before .before .before .before .before .if6 .taken)) (omega (arith, c .before .before .before .before .before .before .if7 .left))) (ap length (pattern-four x (omega (arith, c .before .before .before .before .before .before .before .if6 .taken)))) (four p) (c .before .before .put4 .ensures)
+    let l : 0xFFFF < x = omega (arith, h .before .before .if6 .taken) in
+    let g : x ≤ 0x10FFFF = omega (arith, h .before .if7 .left) in
+    leaping-long (p .before .before .codes .inv) x (some p) (is-code d) (form-writer (begin p .args .form)) _ (cesu-pattern x) 6 l g (h .has-pairs .ensures x l g ∙ rw (c .before .before .before .before .before .if8 .taken) refl)
+    (ap length (cesu-long x _ _ refl refl (omega arith) g)) (omega (arith, c .before .before .before .before .if9 .left, p .before .before .codes .inv .room)) (c .before .before .put6 .ensures)
 
 codes-again-5 : tie.Need-codes-again-5 Inv-codes μ-codes
 codes-again-5 c =
+    let h = c .before .before .before .before .before in
+    let d = h .before .before .before .before .before .before in
+    let x = d .code-at .result in
+    let p = d .before in
+    let l : 0xFFFF < x = omega (arith, h .before .before .if6 .taken) in
+    let g : x ≤ 0x10FFFF = omega (arith, h .before .if7 .left) in
+    leaping-long (p .before .before .codes .inv) x (some p) (is-code d) (form-writer (begin p .args .form)) _ (pattern x) 4 l g (h .has-pairs .ensures x l g ∙ rw (c .before .before .before .before .if8 .left) refl)
+    (ap length (pattern-four x (omega arith))) (four p) (c .before .before .put4 .ensures)
+
+codes-again-6 : tie.Need-codes-again-6 Inv-codes μ-codes
+codes-again-6 c =
     let d = c .before .before .before .before .before .before .before .before .before in
     let x = d .code-at .result in
     let p = d .before in
-    leaping-short (p .before .before .codes .inv) x (some p) (is-code d) (form-writer (begin p .args .form)) _ 3 (omega (arith, c .before .before .before .before .before .if6 .left)) (λ u. omega (arith, c .before .before .before .before .if9 .taken))
-    (ap length (pattern-three x (omega (arith, c .before .before .before .before .if9 .taken)) (omega (arith, c .before .before .before .before .before .if6 .left)))) (omega (arith, four p)) (c .before .before .put32 .ensures)
+    leaping-short (p .before .before .codes .inv) x (some p) (is-code d) (form-writer (begin p .args .form)) _ 3 (omega (arith, c .before .before .before .before .before .if6 .left)) (λ u. omega (arith, c .before .before .before .before .if10 .taken))
+    (ap length (pattern-three x (omega (arith, c .before .before .before .before .if10 .taken)) (omega (arith, c .before .before .before .before .before .if6 .left)))) (omega (arith, four p)) (c .before .before .put32 .ensures)
 
 -- ---- escapes
 
@@ -139,7 +155,7 @@ abbrev escape-at : tie.After-low2 Inv-codes μ-codes → Code
 escape-at c = c .before .before .before .before .before .before .before .before .before .before
 
 lax : (c : tie.After-low2 Inv-codes μ-codes) → (begin (escape-at c .before) .args .m .strict ≡ false) × (begin (escape-at c .before) .args .m .surro ≡ false)
-lax c = c .before .before .before .before .careful .ensures (c .before .before .before .if10 .left)
+lax c = c .before .before .before .before .careful .ensures (c .before .before .before .if11 .left)
 
 escaped : (c : tie.After-low2 Inv-codes μ-codes) → Further (escape-at c) (set (escape-at c .before .before .before .codes .dst) (n (escape-at c .before)) (c .low2 .result)) 1
 escaped c =
@@ -147,12 +163,12 @@ escaped c =
     let p = d .before in
     let a = begin p .args in
     leaping-one (p .before .before .codes .inv) (d .code-at .result) (some p) (is-code d) (c .low2 .result) (c .low2 .ensures)
-    (λ t. writes-escape (rowsOf (a .form)) (form-writer (a .form)) (a .m) (d .code-at .result) t (lax c .1) (lax c .0) (c .before .before .no-escape .ensures (c .before .if11 .left))) (omega (arith, four p))
+    (λ t. writes-escape (rowsOf (a .form)) (form-writer (a .form)) (a .m) (d .code-at .result) t (lax c .1) (lax c .0) (c .before .before .no-escape .ensures (c .before .if12 .left))) (omega (arith, four p))
 
-abbrev escapes-at : tie.After-slice-known7 Inv-codes μ-codes → tie.After-low2 Inv-codes μ-codes
+abbrev escapes-at : tie.After-slice-known8 Inv-codes μ-codes → tie.After-low2 Inv-codes μ-codes
 escapes-at c = c .before .before .before .before .before
 
-escapes : (c : tie.After-slice-known7 Inv-codes μ-codes)
+escapes : (c : tie.After-slice-known8 Inv-codes μ-codes)
     → (at (escape-at (escapes-at c) .before) + 1 + c .before .before .escapes-out .result ≤ length (codesOf (begin (escape-at (escapes-at c) .before) .args .codes .now)))
     × (n (escape-at (escapes-at c) .before) + 1 + c .before .before .escapes-out .result ≤ length (escape-at (escapes-at c) .before .before .before .codes .dst))
 escapes c =
@@ -160,8 +176,8 @@ escapes c =
     let (h, g) = leapt-within (escaped l) Single _ _ _ (next (escape-at l .before)) (lent (escape-at l .before)) (c .before .before .escapes-out .ensures) in
     (h, omega (arith, g, length-set (escape-at l .before .before .before .codes .dst) (n (escape-at l .before)) (l .low2 .result)))
 
-codes-again-6 : tie.Need-codes-again-6 Inv-codes μ-codes
-codes-again-6 c =
+codes-again-7 : tie.Need-codes-again-7 Inv-codes μ-codes
+codes-again-7 c =
     let l = escapes-at c in
     let a = begin (escape-at l .before) .args in
     leaping-run (escaped l) Single _ _ _ (next (escape-at l .before)) (lent (escape-at l .before)) (c .before .before .escapes-out .ensures)
@@ -205,16 +221,22 @@ leap-spec =
     (λ c. omega (arith, whole (c .before .before .before .before .before .before .before .before)))
     codes-again-3
     (λ c κs. tt)
+    (λ c. c .before .before .before .before .before .before .before .before .before .before .codes .inv .room)
+    (λ c κs. (omega arith, omega arith, omega (arith, c .before .if9 .left)))
+    (λ c. omega (arith, whole (c .before .before .before .before .before .before .before .before .before .before .before .before .before), c .before .before .before .before .if9 .left))
+    (λ c. omega (arith, whole (c .before .before .before .before .before .before .before .before .before .before .before .before .before)))
+    (λ c. omega (arith, whole (c .before .before .before .before .before .before .before .before .before .before .before .before .before)))
+    codes-again-4
     (λ c κs. (omega arith, omega arith, four (c .before .before .before .before .before .before .before .before .before)))
     (λ c. omega (arith, four (c .before .before .before .before .before .before .before .before .before .before .before .before)))
     (λ c. omega (arith, whole (c .before .before .before .before .before .before .before .before .before .before .before .before)))
     (λ c. omega (arith, whole (c .before .before .before .before .before .before .before .before .before .before .before .before)))
-    codes-again-4
+    codes-again-5
     (λ c κs. (omega arith, omega arith, omega (arith, four (c .before .before .before .before .before .before .before))))
     (λ c. omega (arith, four (c .before .before .before .before .before .before .before .before .before .before)))
     (λ c. omega (arith, whole (c .before .before .before .before .before .before .before .before .before .before)))
     (λ c. omega (arith, whole (c .before .before .before .before .before .before .before .before .before .before)))
-    codes-again-5
+    codes-again-6
     (λ c κs. tt)
     (λ c κs. tt)
     (λ c κs. tt)
@@ -232,15 +254,15 @@ leap-spec =
     (λ c. omega (arith, escapes c .0, codes-length (begin (escape-at (escapes-at c) .before) .args .codes .now)))
     (λ c. omega (arith, escapes c .1))
     (λ c. omega (arith, whole (escape-at (escapes-at c) .before)))
-    codes-again-6
+    codes-again-7
     (λ c. c .before .codes .inv .onward .same)
     (λ c. c .before .codes .inv .onward)
     (λ c. c .before .before .codes .inv .onward .same)
     (λ c. c .before .before .codes .inv .onward)
     (λ c. c .before .before .before .before .before .before .before .before .codes .inv .onward .same)
     (λ c. c .before .before .before .before .before .before .before .before .codes .inv .onward)
-    (λ c. c .before .before .before .before .before .before .before .before .before .before .codes .inv .onward .same)
-    (λ c. c .before .before .before .before .before .before .before .before .before .before .codes .inv .onward)
+    (λ c. c .before .before .before .before .before .before .before .before .before .before .before .codes .inv .onward .same)
+    (λ c. c .before .before .before .before .before .before .before .before .before .before .before .codes .inv .onward)
     (λ c. c .before .before .before .before .before .before .before .before .before .before .codes .inv .onward .same)
     (λ c. c .before .before .before .before .before .before .before .before .before .before .codes .inv .onward)
     (λ c. c .before .before .before .before .before .before .before .before .before .before .before .before .codes .inv .onward .same)

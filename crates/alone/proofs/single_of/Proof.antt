@@ -2,8 +2,8 @@
 use borrow.Author.Needs.{needs}
 use borrow.Author.Tests.{lt-ltb, le-ltb}
 use Rattle.readings.specs.Come.{single}
-use Rattle.read_leap.proofs.single_of.Statement.{statement}
-use Rattle.read_leap.proofs.single_of.Tie as tie
+use Rattle.alone.proofs.single_of.Statement.{statement}
+use Rattle.alone.proofs.single_of.Tie as tie
 
 pub single-of-spec : {M : Type 1} → statement M
 unfolding single
