@@ -8,7 +8,7 @@ use native.Mathlib.Numerals.{add-one}
 use native.Mathlib.Omega.{arith}
 use native.Mathlib.Decide.{decLe}
 use lib.ListN.{length, getD, set, take, drop, length-map, length-drop}
-use lib.Seq.{length-take-le, take-suc, drop-cons}
+use lib.Seq.{length-take-le, take-suc, drop-cons, sets-eq}
 use borrow.Author.Tests.{lt-ltb, le-ltb}
 use borrow.Rule.Slice.PartAt.{part-to-end}
 use borrow.Rule.Slice.PartMut.{midOf, putMid}
@@ -42,6 +42,29 @@ pattern-three c l h = rw (le-ltb c 0x80 (omega arith), le-ltb c 0x800 l, lt-ltb 
 pub pattern-four : (c : ℕ) → 0x10000 ≤ c → pattern c ≡ (0xF0 + c / 0x40000) ∷ (0x80 + c / 0x1000 % 0x40) ∷ (0x80 + c / 0x40 % 0x40) ∷ (0x80 + c % 0x40) ∷ []
 unfolding pattern
 pattern-four c l = rw (le-ltb c 0x80 (omega arith), le-ltb c 0x800 (omega arith), le-ltb c 0x10000 l) refl
+
+-- ---- stores, one behind another, that are one write of a code's bytes
+
+module _ (d : List ℕ) (n x : ℕ) where
+  pub put-two : (z : ℕ) → 0x80 ≤ x → x < 0x800 → n + 2 ≤ length d → z ≡ 0x80 + x % 0x40 → set (set d n (0xC0 + x / 0x40)) (n + 1) z ≡ take n d ++ pattern x ++ drop (n + 2) d
+  put-two z l h g e =
+      let f : n + 1 ≡ suc n = omega arith in
+      rw (f, e, pattern-two x l h) (sets-eq ((0xC0 + x / 0x40) ∷ (0x80 + x % 0x40) ∷ []) d n g)
+
+  pub put-three : (y z : ℕ) → 0x800 ≤ x → x < 0x10000 → n + 3 ≤ length d → y ≡ 0x80 + x / 0x40 % 0x40 → z ≡ 0x80 + x % 0x40
+      → set (set (set d n (0xE0 + x / 0x1000)) (n + 1) y) (n + 2) z ≡ take n d ++ pattern x ++ drop (n + 3) d
+  put-three y z l h g e i =
+      let f : n + 1 ≡ suc n = omega arith in
+      let j : n + 2 ≡ suc (suc n) = omega arith in
+      rw (f, j, e, i, pattern-three x l h) (sets-eq ((0xE0 + x / 0x1000) ∷ (0x80 + x / 0x40 % 0x40) ∷ (0x80 + x % 0x40) ∷ []) d n g)
+
+  pub put-four : (w y z : ℕ) → 0x10000 ≤ x → n + 4 ≤ length d → w ≡ 0x80 + x / 0x1000 % 0x40 → y ≡ 0x80 + x / 0x40 % 0x40 → z ≡ 0x80 + x % 0x40
+      → set (set (set (set d n (0xF0 + x / 0x40000)) (n + 1) w) (n + 2) y) (n + 3) z ≡ take n d ++ pattern x ++ drop (n + 4) d
+  put-four w y z l g e i o =
+      let f : n + 1 ≡ suc n = omega arith in
+      let j : n + 2 ≡ suc (suc n) = omega arith in
+      let k : n + 3 ≡ suc (suc (suc n)) = omega arith in
+      rw (f, j, k, e, i, o, pattern-four x l) (sets-eq ((0xF0 + x / 0x40000) ∷ (0x80 + x / 0x1000 % 0x40) ∷ (0x80 + x / 0x40 % 0x40) ∷ (0x80 + x % 0x40) ∷ []) d n g)
 
 -- ---- one code
 
