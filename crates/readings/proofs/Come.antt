@@ -93,17 +93,6 @@ module _ {lay : List ℕ → List ℕ} {w : ℕ → ℕ} (L : Layout lay w) wher
     pub come-room : w n ≤ length d₀
     come-room = rw (← size) (r .filled .fits)
 
-    -- a code is put
-    pub come-put : (c k : ℕ) (p : List ℕ) → turn F m (drop at s) ≡ convert c k → w n + length (lay (c ∷ [])) ≤ length d₀
-        → p ≡ take (w n) d ++ lay (c ∷ []) ++ drop (w n + length (lay (c ∷ []))) d → Come lay F m s d₀ p (at + k) (n + 1)
-    come-put c k p e h q =
-        record {
-          codes = r .codes ++ (c ∷ []);
-          count = length-append (r .codes) (c ∷ []) ∙ omega (arith, r .count);
-          converts = converts-on F m s (r .codes) (c ∷ []) at k (r .converts) (converts-one F m (drop at s) c k e);
-          filled = rw (L .joins (r .codes) (c ∷ [])) (filled-put d₀ d (lay (r .codes)) (r .filled) (w n) size (lay (c ∷ [])) p h q);
-        }
-
     -- ---- how it ends
 
     module _ (room : ℕ) (h : n ≤ room) where
