@@ -1,17 +1,15 @@
 -- The code goes through the local array. Assumes nothing.
-use mathlib.Core.Path.{_≡_, refl, sym, ap, _∙_}
-use mathlib.Core.List.{List, [], _∷_, _++_}
-use Prim.Native.Nat.{ℕ, _/_, _≤_, min}
+use mathlib.Core.Path.{_≡_, sym, ap, _∙_}
+use mathlib.Core.List.{[], _∷_, _++_}
+use Prim.Native.Nat.{ℕ, _/_, min}
 use native.Mathlib.Omega.{arith}
 use lib.ListN.{length, drop}
 use lib.Seq.{length-take-le}
 use borrow.Author.Needs.{needs}
 use Rattle.forms.specs.Forms.{rowsOf}
-use Rattle.numbers.specs.Filled.{Filled}
 use Rattle.numbers.proofs.Filled.{filled-none}
 use Rattle.readings.specs.Reading.{Reading, reading}
 use Rattle.reader.specs.Decoded.{decodedOf}
-use Rattle.quads.specs.Bytes.{laid}
 use Rattle.packed.proofs.Reading.{One, one, put-first}
 use Rattle.packed.proofs.read_one.Statement.{statement}
 use Rattle.packed.proofs.read_one.Tie as tie
