@@ -1,14 +1,16 @@
 -- What holds of the rows of every form: a clause for each case of the enum. Assumes nothing.
-use mathlib.Core.Path.{_≡_}
+use mathlib.Core.Path.{_≡_, ap}
 use mathlib.Core.Bool.{Bool}
-use mathlib.Core.List.{List, []}
+use mathlib.Core.List.{List, [], _∷_}
 use Prim.Native.Nat.{ℕ, _+_, _≤_, _<_}
 use native.Mathlib.Omega.{arith}
 use lib.Dec.{T}
+use lib.ListN.{drop}
+use borrow.Author.Tests.{le-leb}
 use Rattle.form.specs.Table as Table
-use Rattle.form.specs.Table.{plain, surro, cesu, Codes}
+use Rattle.form.specs.Table.{_to_, row, plain, surro, cesu, Codes}
 use Rattle.form.specs.Pattern.{bits}
-use Rattle.form.specs.Scan.{part, scan}
+use Rattle.form.specs.Scan.{well, part, scan}
 use Rattle.form.proofs.Tests.{Regular}
 use Rattle.form.proofs.After.{scan-nil}
 use Rattle.form.proofs.Between.{between, between-at}
@@ -34,6 +36,16 @@ form-scans Cesu = cesu-form .scans
 
 pub form-nil : (f : Form) → scan (rowsOf f) [] ≡ part
 form-nil f = scan-nil (rowsOf f) (form-regular f .is-some) (form-regular f .is-open)
+
+ascii-row : (F : Table.Form) (b : ℕ) (t : List ℕ) → b < 0x80 → scan (row 0 (0x00 to 0x7F ∷ []) ∷ F) (b ∷ t) ≡ well b 1
+ascii-row F b t h = rw (le-leb 0 b (omega arith), le-leb b 0x7F (omega arith)) (ap (λ (c : ℕ). well c 1) (omega arith))
+
+-- a byte below 80 is a sequence by itself
+pub form-ascii : (f : Form) (b : ℕ) (t : List ℕ) → b < 0x80 → scan (rowsOf f) (b ∷ t) ≡ well b 1
+unfolding plain surro cesu
+form-ascii Plain b t h = ascii-row (drop 1 plain) b t h
+form-ascii Surro b t h = ascii-row (drop 1 surro) b t h
+form-ascii Cesu b t h = ascii-row (drop 1 cesu) b t h
 
 pub form-bits : (f : Form) (w : List ℕ) (c : ℕ) → Codes (rowsOf f) w c → c ≡ bits w
 form-bits Plain = plain-bits

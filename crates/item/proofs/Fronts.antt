@@ -7,8 +7,8 @@ use lib.ListN.{length, getD}
 use Rattle.form.specs.Table.{plain}
 use Rattle.form.specs.Scan.{Found, well, part, bad, scan}
 use Rattle.form.specs.Text.{stray, item}
-use Rattle.form.proofs.Utf8.{plain-scans}
-use Rattle.form.proofs.EncodingForms.{plain-form}
+use Rattle.forms.specs.declared.Form.the-variants.{Plain}
+use Rattle.forms.proofs.Forms.{form-ascii}
 use Rattle.front.specs.Front.{Told, told, toldOf}
 use Rattle.front.specs.declared.Front.{Front}
 use Rattle.front.specs.declared.Front.the-variants.{Well, Partial, Bad}
@@ -48,6 +48,4 @@ span-none (b ∷ s) e = absurd (omega arith)
 pub span-ascii : (s : List ℕ) → 0 < length s → getD s 0 0 < 0x80 → 1 ≡ leafOf s .span
 unfolding leafOf
 span-ascii [] h l = absurd (omega arith)
-span-ascii (b ∷ s) h l =
-    let e : scan plain (b ∷ s) ≡ well b 1 = plain-scans .finds-well (b ∷ s) b 1 .1 (plain-form .ascii (b ∷ []) b l .1 refl, omega arith) in
-    rw e refl
+span-ascii (b ∷ s) h l = rw (form-ascii Plain b s l) refl

@@ -17,7 +17,8 @@ use Rattle.forms.specs.declared.Form.the-variants.{Plain, Surro, Cesu}
 use Rattle.forms.specs.Forms.{rowsOf}
 use Rattle.straight.specs.declared.Straight.{Straight}
 use Rattle.straight.specs.Straight.{straightOf}
-use Rattle.straight.proofs.Laws.{ascii-scan, stray-scan, sure-bad, straight-well}
+use Rattle.forms.proofs.Forms.{form-ascii}
+use Rattle.straight.proofs.Laws.{stray-scan, sure-bad, straight-well}
 use Rattle.readings.specs.Reading.{convert, turn}
 use Rattle.readings.specs.Come.{Come, single, Singles}
 use Rattle.readings.proofs.Come.{Layout, converts-one, single-ascii, single-escape, come-start, singles-room, singles-come, turn-well, turn-bad}
@@ -43,7 +44,7 @@ sequenced {lay} L f s d₀ d q e g h o =
 
 module _ (f : Form) (m : Flags) where
   turn-ascii : (b : ℕ) (t : List ℕ) → b < 0x80 → turn (rowsOf f) m (b ∷ t) ≡ convert (single b) 1
-  turn-ascii b t h = rw (single-ascii b h) (turn-well (rowsOf f) m b t b 1 (ascii-scan f b t h))
+  turn-ascii b t h = rw (single-ascii b h) (turn-well (rowsOf f) m b t b 1 (form-ascii f b t h))
 
   turn-sequence : (s : List ℕ) (c k : ℕ) → scan (rowsOf f) s ≡ well c k → turn (rowsOf f) m s ≡ convert c k
   turn-sequence [] c k e = absurd (nothing f c k e)

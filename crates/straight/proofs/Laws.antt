@@ -15,11 +15,7 @@ use Rattle.forms.specs.declared.Form.{Form}
 use Rattle.forms.specs.Forms.{rowsOf}
 use Rattle.forms.proofs.Forms.{form-regular, form-scans, every-form}
 use Rattle.straight.specs.Straight.{straightOf}
-use Rattle.straight.proofs.Shapes.{scan-shape, codes-pair, has-low}
-
--- a byte below 80 is its own sequence
-pub ascii-scan : (f : Form) (b : ℕ) (t : List ℕ) → b < 0x80 → scan (rowsOf f) (b ∷ t) ≡ well b 1
-ascii-scan f b t h = scan-shape f (b ∷ []) t b (h, refl) (has-low f b (omega arith))
+use Rattle.straight.proofs.Shapes.{codes-pair}
 
 abbrev none? : Table.Form → Bool
 none? [] = true
