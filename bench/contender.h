@@ -24,9 +24,9 @@ struct contender {
     void (*fetch)(void *out, size_t room);
 };
 
-/* The C entries of all forms. */
+/* The C entries of all forms, and the reader of UTF-8 with UTF8B_SHOW. */
 struct entries {
-    struct contender reader[FORMS], writer[FORMS];
+    struct contender reader[FORMS], writer[FORMS], show_reader;
 };
 
 /* entry.c has entries. The others are copies, whose functions begin so many bytes after a multiple of 64. */

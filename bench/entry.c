@@ -24,7 +24,7 @@ static size_t lesser(size_t a, size_t b)
 }
 
 /* An entry takes at most UTF8B_LIMIT bytes a buffer. The whole rest is lent to each call, so each has UTF8B_LAST. */
-static inline size_t read_by(entry *decode, const void *in, size_t len, void *out, size_t room)
+static inline size_t read_by(entry *decode, uint32_t flags, const void *in, size_t len, void *out, size_t room)
 {
     const uint8_t *src = in;
     uint8_t *codes = out, report[UTF8B_REPORT];
@@ -32,7 +32,7 @@ static inline size_t read_by(entry *decode, const void *in, size_t len, void *ou
 
     while (len > 0) {
         size_t bytes = lesser(4 * (room - made), UTF8B_LIMIT);
-        int64_t count = decode(src, len, codes + 4 * made, bytes, UTF8B_LAST, report, sizeof report);
+        int64_t count = decode(src, len, codes + 4 * made, bytes, UTF8B_LAST | flags, report, sizeof report);
 
         if (count <= 0)
             break;
@@ -64,7 +64,12 @@ static inline size_t write_by(entry *encode, const void *in, size_t len, void *o
 
 static size_t utf8_read(const void *in, size_t len, void *out, size_t room)
 {
-    return read_by(utf8b_decode, in, len, out, room);
+    return read_by(utf8b_decode, 0, in, len, out, room);
+}
+
+static size_t utf8_show(const void *in, size_t len, void *out, size_t room)
+{
+    return read_by(utf8b_decode, UTF8B_SHOW, in, len, out, room);
 }
 
 static size_t utf8_write(const void *in, size_t len, void *out, size_t room)
@@ -74,7 +79,7 @@ static size_t utf8_write(const void *in, size_t len, void *out, size_t room)
 
 static size_t cesu8_read(const void *in, size_t len, void *out, size_t room)
 {
-    return read_by(utf8b_cesu8_decode, in, len, out, room);
+    return read_by(utf8b_cesu8_decode, 0, in, len, out, room);
 }
 
 static size_t cesu8_write(const void *in, size_t len, void *out, size_t room)
@@ -85,4 +90,5 @@ static size_t cesu8_write(const void *in, size_t len, void *out, size_t room)
 const struct entries entries = {
     .reader = {[UTF8] = {.name = "entry", .run = utf8_read}, [CESU8] = {.name = "entry", .run = cesu8_read}},
     .writer = {[UTF8] = {.name = "entry", .run = utf8_write}, [CESU8] = {.name = "entry", .run = cesu8_write}},
+    .show_reader = {.name = "entry", .run = utf8_show},
 };

@@ -1,13 +1,28 @@
 /*
  * Every corpus once through each entry, for callgrind, which writes its counts whenever run_texts ends. Prints the
- * tables, with what each count is to be divided by, marked with @, in its place.
+ * tables, with what each count is to be divided by, marked with @, in its place. A # is the place of a figure of the
+ * steps, which have no entry.
  */
 #include "contender.h"
+
+#include "utf8b.h"
 
 #include <stdio.h>
 
 /* One output for all. */
 static void *out;
+
+/* The index goes where codes would, and is given the room that is always enough. */
+static size_t build_index(const void *in, size_t len, void *to, size_t room)
+{
+    size_t records = 0;
+
+    (void)room;
+    utf8b_index_build(in, len, to, utf8b_index_room(len), &records);
+    return records;
+}
+
+static const struct contender indexer = {.name = "index", .run = build_index};
 
 /* Not compiled into its callers, so that it has an end. */
 __attribute__((noinline))
@@ -43,11 +58,34 @@ static void show_table(const char *title, int is_whole)
         show_row(c, is_whole);
 }
 
+static void show_walk(struct corpus *c)
+{
+    const struct contender *walks[] = {&entries.show_reader, &indexer};
+
+    printf("| %s |", c->name);
+    for (size_t i = 0; i < sizeof walks / sizeof *walks; i++) {
+        run_texts(walks[i], 0, &c->whole[UTF8], 1);
+        printf(" @%d |", WHOLE);
+    }
+    puts(" # | # |");
+}
+
+/* This comes last: it leaves other codes than the writers have to write, or none. */
+static void show_walks(void)
+{
+    puts("\nWhere bytes are classified one by one, instructions:\n");
+    puts("| corpus | reader with SHOW, a byte | index, build, a byte | step, a sequence a call | step, a byte a call |");
+    puts("|---|--:|--:|--:|--:|");
+    for (struct corpus *c = corpora; c < corpora + CORPORA; c++)
+        show_walk(c);
+}
+
 int main(void)
 {
     out = new_memory(WHOLE);
     make_corpora();
     show_table("1 MiB, instructions a byte", 1);
     show_table("Short lines, instructions a line", 0);
+    show_walks();
     return 0;
 }

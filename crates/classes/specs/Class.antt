@@ -1,4 +1,4 @@
--- Classes of bytes, and numbers by their hex digits. Assumes nothing.
+-- Classes of bytes, and numbers by their hex digits. Nobody has to believe in the ranges: proofs/Agree in classify says that they are fine enough. Assumes nothing.
 use mathlib.Core.Bool.{cond}
 use mathlib.Core.List.{List, [], _∷_}
 use Prim.Native.Nat.{ℕ, zero, suc, _+_, _*_, _/_, _%_, _^_}

@@ -1,4 +1,4 @@
-// The class of a byte: which of fifteen ranges it is in. The class is all that a walk over the bytes of a sequence has to know of one.
+// The class of a byte: which of fifteen ranges it is in. A walk over the bytes of a sequence has to know no more of a byte.
 ghost use mathlib.Core.Path.{_≡_};
 ghost use Prim.Native.Nat.{_<_};
 ghost use Rattle.classes.specs.Class.{digitOf, classOf, classesOf};
@@ -36,7 +36,7 @@ fn classes(high: u8) -> u64
         0xC => 0x6666_6666_6666_6655,
         0xD => 0x6666_6666_6666_6666,
         0xE => 0xAA98_8888_8888_8887,
-        0xF..=0xFF => 0xEEEE_EEEE_EEED_CCCB,
+        _ => 0xEEEE_EEEE_EEED_CCCB, // 0xF
     }
 }
 

@@ -15,7 +15,9 @@ use Rattle.forms.specs.declared.Form.{Form}
 use Rattle.forms.specs.Forms.{rowsOf}
 use Rattle.forms.proofs.Forms.{every-form}
 use Rattle.classes.specs.Class.{ranges, classOf, digitOf}
+use Rattle.lead.specs.Lead.{leadOf}
 use Rattle.classify.specs.Stage.{stages, left, stageOf, nextsOf}
+use Rattle.classify.proofs.Stages.{stageBy, lead-stage}
 
 -- by its class a byte leads to the stage that it leaves
 abbrev pub ByClass : Table.Form → ℕ → Type 0
@@ -27,6 +29,10 @@ agrees F b = eqb (digitOf (nextsOf F) (classOf b)) (stageOf (after b F))
 pub first-by-class : (f : Form) (b : ℕ) → b < 256 → ByClass (rowsOf f) b
 unfolding plain surro cesu ranges classOf digitOf stages stageOf nextsOf agrees
 first-by-class f b h = eqb→eq _ _ (every-form agrees 0 256 tt tt tt f b (omega arith) h)
+
+-- and to the stage that the match with ranges, `lead_of`, has for a first byte
+pub lead-by-class : (f : Form) (b : ℕ) → b < 256 → digitOf (nextsOf (rowsOf f)) (classOf b) ≡ stageBy f (leadOf (after b (rowsOf f)))
+lead-by-class f b h = first-by-class f b h ∙ sym (lead-stage f b h)
 
 stage-agrees : ℕ → Bool
 stage-agrees n = between 0 256 (agrees (left n))

@@ -1,6 +1,5 @@
 -- Each row is computed at its stage. Assumes nothing.
 use mathlib.Core.Path.{refl}
-use native.Mathlib.Omega.{arith}
 use Rattle.classes.proofs.Chart.{none-below}
 use Rattle.classes.specs.Class.{ranges}
 use Rattle.classify.specs.Stage.{stages, left, stageOf, nextsOf}
@@ -61,19 +60,7 @@ unfolding ranges stages left stageOf nextsOf
 returns-13 c = row-at _ _ 12 (c .match .keys13) refl
 
 returns-14 : tie.Need-returns-14
-unfolding ranges stages left stageOf nextsOf
-returns-14 c = row-at _ _ 13 (c .match .keys14) refl
-
-returns-15 : tie.Need-returns-15
-unfolding ranges stages left stageOf nextsOf
-returns-15 c = row-at _ _ 14 (c .match .keys15) refl
-
-returns-16 : tie.Need-returns-16
-unfolding ranges stages left stageOf nextsOf
-returns-16 c = row-at _ _ 15 (c .match .keys16) refl
-
-returns-17 : tie.Need-returns-17
-returns-17 c = row-beyond (c .before .args .stage) (omega (arith, none-below 16 _ (c .match .rest)))
+returns-14 c = row-beyond (c .before .args .stage) (none-below 13 _ (c .match .rest))
 
 pub nexts-spec : {M : Type 1} → statement M
 nexts-spec =
@@ -92,7 +79,4 @@ nexts-spec =
     returns-11
     returns-12
     returns-13
-    returns-14
-    returns-15
-    returns-16
-    returns-17)
+    returns-14)
