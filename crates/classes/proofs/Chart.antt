@@ -3,7 +3,7 @@ use mathlib.Core.Path.{_≡_, sym, ap, _∙_}
 use mathlib.Core.Bool.{Bool}
 use Prim.Native.Nat.{ℕ, zero, suc, _/_, _%_, _≤_, _<_}
 use native.Mathlib.Omega.{arith}
-use lib.Dec.{eqb, eqb→eq}
+use lib.Dec.{T, eqb, eqb→eq}
 use Rattle.form.proofs.Between.{between-at}
 use Rattle.classes.specs.Class.{ranges, classOf, digitOf, classesOf}
 
@@ -14,9 +14,9 @@ pub chart-class : (b : ℕ) → b < 256 → digitOf (classesOf (b / 16)) (b % 16
 unfolding ranges classOf digitOf classesOf charted
 chart-class b h = eqb→eq _ _ (between-at 0 256 charted tt b (omega arith) h)
 
--- a row of the table at its high digit
-pub chart-row : (h n k : ℕ) → h ≡ k → n ≡ classesOf k → n ≡ classesOf h
-chart-row h n k p e = e ∙ ap classesOf (sym p)
+-- a row of the table, by a test that is computed at its high digit
+pub row-computed : (k h n : ℕ) → h ≡ k → T (eqb n (classesOf k)) → n ≡ classesOf h
+row-computed k h n e t = eqb→eq n (classesOf k) t ∙ ap classesOf (sym e)
 
 -- a number that is none of those below k, as a `match` leaves it
 abbrev pub NoneBelow : ℕ → ℕ → Type 0

@@ -1,12 +1,15 @@
 -- What stands at the front of a slice, as an item. Assumes nothing.
 use mathlib.Core.Path.{_≡_, refl, ap}
 use mathlib.Core.List.{List, [], _∷_}
-use Prim.Native.Nat.{ℕ, suc, _<_}
+use Prim.Native.Nat.{ℕ, suc, _<_, max}
 use native.Mathlib.Omega.{arith}
 use lib.ListN.{length, getD}
 use Rattle.form.specs.Table.{plain}
 use Rattle.form.specs.Scan.{Found, well, part, bad, scan}
-use Rattle.form.specs.Text.{stray, item}
+use Rattle.form.specs.Text.{stray, item, span, more}
+use Rattle.form.proofs.Items.{span-more}
+use Rattle.form.proofs.Utf8.{plain-regular}
+use Rattle.straight.specs.Straight.{straightOf}
 use Rattle.forms.specs.declared.Form.the-variants.{Plain}
 use Rattle.forms.proofs.Forms.{form-ascii}
 use Rattle.front.specs.Front.{Told, told, toldOf}
@@ -49,3 +52,15 @@ pub span-ascii : (s : List ℕ) → 0 < length s → getD s 0 0 < 0x80 → 1 ≡
 unfolding leafOf
 span-ascii [] h l = absurd (omega arith)
 span-ascii (b ∷ s) h l = rw (form-ascii Plain b s l) refl
+
+-- else it has the bytes of a sequence, or one
+pub span-straight : (s : List ℕ) → 0 < length s → max 1 (straightOf (scan plain s) .len) ≡ leafOf s .span
+unfolding leafOf
+span-straight [] h = absurd (omega arith)
+span-straight (b ∷ s) h = go (scan plain (b ∷ s)) refl (span-more plain b s (plain-regular .is-open))
+  where
+    go : (x : Found) → scan plain (b ∷ s) ≡ x → span (item (scan plain (b ∷ s)) b s) ≡ suc (more (item (scan plain (b ∷ s)) b s))
+        → max 1 (straightOf (scan plain (b ∷ s)) .len) ≡ leaf (item (scan plain (b ∷ s)) b s) .span
+    go (well c n) e m = let k = rw e at m in rw e (omega (arith, k))
+    go part e m = rw e refl
+    go (bad n) e m = rw e refl

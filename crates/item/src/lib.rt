@@ -56,7 +56,7 @@ pub fn item_of(s: &[u8]) -> Leaf
     of_front(f, s[0])
 }
 
-// How many bytes that item takes: a walk that wants no code passes over ASCII by one test.
+// How many bytes that item takes, which a straight line tells: those of a well-formed sequence, or else one.
 pub fn span_of(s: &[u8]) -> usize
     ensures { λ r. ⌜ r ≡ leafOf (now (s .entry)) .span ⌝ }
 {
@@ -66,6 +66,9 @@ pub fn span_of(s: &[u8]) -> usize
     if s[0] < 0x80 {
         return 1;
     }
-    let i = item_of(s);
-    i.span
+    let q = straight::straight_of(Form::Plain, s);
+    if q.len == 0 {
+        return 1;
+    }
+    q.len
 }
