@@ -74,7 +74,8 @@ static void show_walk(struct corpus *c)
 static void show_walks(void)
 {
     puts("\nWhere bytes are classified one by one, instructions:\n");
-    puts("| corpus | reader with SHOW, a byte | index, build, a byte | step, a sequence a call | step, a byte a call |");
+    puts("| corpus | reader with SHOW, a byte | index, build, a byte | step, a sequence a call "
+         "| step, a byte a call |");
     puts("|---|--:|--:|--:|--:|");
     for (struct corpus *c = corpora; c < corpora + CORPORA; c++)
         show_walk(c);
