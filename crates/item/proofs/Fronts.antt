@@ -9,12 +9,14 @@ use Rattle.form.specs.Scan.{Found, well, part, bad, scan}
 use Rattle.form.specs.Text.{stray, item, span, more}
 use Rattle.form.proofs.Items.{span-more}
 use Rattle.form.proofs.Utf8.{plain-regular}
+use Rattle.straight.specs.declared.Straight.{Straight}
 use Rattle.straight.specs.Straight.{straightOf}
 use Rattle.forms.specs.declared.Form.the-variants.{Plain}
 use Rattle.forms.proofs.Forms.{form-ascii}
 use Rattle.front.specs.Front.{Told, told, toldOf}
 use Rattle.front.specs.declared.Front.{Front}
 use Rattle.front.specs.declared.Front.the-variants.{Well, Partial, Bad}
+use Rattle.item.specs.declared.Leaf.{Leaf}
 use Rattle.item.specs.Leaf.{leaf, leafOf, itemOf}
 
 -- one number is not another
@@ -39,6 +41,21 @@ pub by-front : (f : Front) (s : List ℕ) → 0 < length s → told f ≡ toldOf
 unfolding leafOf
 by-front f [] h e = absurd (omega arith)
 by-front f (b ∷ t) h e = ap leaf (by-found f b t (scan plain (b ∷ t)) e)
+
+-- ---- in a straight line
+
+abbrev sequence : Straight → Leaf
+sequence q = record { code = q .code; span = q .len; subpart = 0 }
+
+pub leaf-straight : (s : List ℕ) (q : Straight) → 0 < length s → q ≡ straightOf (scan plain s) → (q .len ≡ 0 → ⊥) → sequence q ≡ leafOf s
+unfolding leafOf
+leaf-straight [] q h e f = absurd (omega arith)
+leaf-straight (b ∷ s) q h e f = go (scan plain (b ∷ s)) e
+  where
+    go : (x : Found) → q ≡ straightOf x → sequence q ≡ leaf (item x b s)
+    go (well c n) p = ap sequence p
+    go part p = absurd (f (ap (λ (k : Straight). k .len) p))
+    go (bad n) p = absurd (f (ap (λ (k : Straight). k .len) p))
 
 -- ---- the span alone
 

@@ -41,7 +41,7 @@ fn of_front(f: Front, b: u8) -> Leaf
     }
 }
 
-// Of no bytes: no item, all zero.
+// A sequence in a straight line, and else what a walk finds. Of no bytes: no item, all zero.
 pub fn item_of(s: &[u8]) -> Leaf
     ensures { λ r. ⌜ r ≡ leafOf (now (s .entry)) ⌝ }
 {
@@ -49,6 +49,14 @@ pub fn item_of(s: &[u8]) -> Leaf
         return Leaf {
             code: 0,
             span: 0,
+            subpart: 0,
+        };
+    }
+    let q = straight::straight_of(Form::Plain, s);
+    if q.len != 0 {
+        return Leaf {
+            code: q.code,
+            span: q.len,
             subpart: 0,
         };
     }
