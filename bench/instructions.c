@@ -58,27 +58,27 @@ static void show_table(const char *title, int is_whole)
         show_row(c, is_whole);
 }
 
-static void show_walk(struct corpus *c)
+static void show_others(struct corpus *c)
 {
-    const struct contender *walks[] = {&entries.show_reader, &indexer};
+    const struct contender *others[] = {&entries.show_reader, &indexer};
 
     printf("| %s |", c->name);
-    for (size_t i = 0; i < sizeof walks / sizeof *walks; i++) {
-        run_texts(walks[i], 0, &c->whole[UTF8], 1);
+    for (size_t i = 0; i < sizeof others / sizeof *others; i++) {
+        run_texts(others[i], 0, &c->whole[UTF8], 1);
         printf(" @%d |", WHOLE);
     }
     puts(" # | # |");
 }
 
 /* This comes last: it leaves other codes than the writers have to write, or none. */
-static void show_walks(void)
+static void show_others_table(void)
 {
-    puts("\nWhere bytes are classified one by one, instructions:\n");
+    puts("\nMarks, the index and the steps, instructions:\n");
     puts("| corpus | reader with SHOW, a byte | index, build, a byte | step, a sequence a call "
          "| step, a byte a call |");
     puts("|---|--:|--:|--:|--:|");
     for (struct corpus *c = corpora; c < corpora + CORPORA; c++)
-        show_walk(c);
+        show_others(c);
 }
 
 int main(void)
@@ -87,6 +87,6 @@ int main(void)
     make_corpora();
     show_table("1 MiB, instructions a byte", 1);
     show_table("Short lines, instructions a line", 0);
-    show_walks();
+    show_others_table();
     return 0;
 }
