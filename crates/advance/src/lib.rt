@@ -126,8 +126,7 @@ pub fn advance(form: Form, s: Record, input: &[u8]) -> Advanced
 {
     let b = s.bytes;
     match validity::kind_of(form, s) {
-        Kind::Starting => read(form, s, input),
-        Kind::Partial => read(form, s, input),
+        Kind::Starting | Kind::Partial => read(form, s, input),
         Kind::Trail => Advanced {
             reading: Reading::Trail(b[0]),
             next: state::after_first(s.count, b[1], b[2], b[3]),
