@@ -11,12 +11,12 @@ use lib.Seq.{paste, take-paste, length_paste_head, length-take-le, take_all, dro
 use Rattle.form.specs.Table.{Form}
 use Rattle.form.specs.Scan.{Found, well, part, bad, scan}
 use Rattle.form.proofs.Laws.{Scans}
-use Rattle.state.specs.Meaning.{starting, padded, recordOf}
+use Rattle.state.specs.Meaning.{starting, padded, record_of}
 use Rattle.units.specs.Width.{Width}
 use Rattle.state.specs.declared.Record.{Record}
 use Rattle.advance.specs.declared.Answer.TheVariants.{Incomplete, Bad, Null}
 use Rattle.advance.specs.declared.Reading.TheVariants.{Done, Code}
-use Rattle.advance.specs.Step.{incomplete, tell, tell-bad, to, hold, convert, reads, step}
+use Rattle.advance.specs.Step.{incomplete, tell, tell_bad, to, hold, convert, reads, step}
 use Rattle.advance.specs.Advance.{Says, used, Holding, taken}
 
 -- ---- the state while bytes are held
@@ -25,18 +25,18 @@ pub hold-none : (h : List ℕ) → length h ≡ 0 → hold h ≡ starting
 hold-none [] e = refl
 hold-none (b ∷ h) e = absurd (omega arith)
 
-pub hold-some : (h : List ℕ) → 0 < length h → recordOf (hold h) ≡ record { kind = 1; count = length h; bytes = padded h }
-unfolding recordOf
+pub hold-some : (h : List ℕ) → 0 < length h → record_of (hold h) ≡ record { kind = 1; count = length h; bytes = padded h }
+unfolding record_of
 hold-some [] e = absurd (omega arith)
 hold-some (b ∷ h) e = refl
 
 zeros : (m n : ℕ) → m ≡ n → replicate {A = ℕ} m 0 ≡ replicate n 0
 zeros m n e = rw e refl
 
-drop-zeros : (m n : ℕ) → drop m (replicate {A = ℕ} n 0) ≡ replicate (n - m) 0
-drop-zeros zero n = zeros n (n - 0) (omega arith)
-drop-zeros (suc m) zero = zeros 0 (0 - suc m) (omega arith)
-drop-zeros (suc m) (suc n) = drop-zeros m n ∙ zeros (n - m) (suc n - suc m) (omega arith)
+drop_zeros : (m n : ℕ) → drop m (replicate {A = ℕ} n 0) ≡ replicate (n - m) 0
+drop_zeros zero n = zeros n (n - 0) (omega arith)
+drop_zeros (suc m) zero = zeros 0 (0 - suc m) (omega arith)
+drop_zeros (suc m) (suc n) = drop_zeros m n ∙ zeros (n - m) (suc n - suc m) (omega arith)
 
 module _ {F : Form} {n : ℕ} (S : Scans F n) where
   -- a sequence ends after the bytes held
@@ -46,22 +46,22 @@ module _ {F : Form} {n : ℕ} (S : Scans F n) where
       go : Dec (m ≤ length h) → length h < m
       go (no n) = omega arith
       go (yes n) =
-          let w = ((S.finds-well (h ++ i) c m).0 e).0 in
-          let z : ◌≡◌ {A = ℕ} 0 1 = cc (p, (S.finds-well h c m).1 (rw (take-append-le m h i n) at w, n)) in
+          let w = ((S.finds_well (h ++ i) c m).0 e).0 in
+          let z : ◌≡◌ {A = ℕ} 0 1 = cc (p, (S.finds_well h c m).1 (rw (take-append-le m h i n) at w, n)) in
           absurd (omega arith)
 
 module _ {F : Form} (S : Scans F 6) where
   -- six bytes decide
   full : (s : List ℕ) → 6 ≤ length s → scan F s ≡ part → ⊥
-  full s h e = omega (arith, S.shorter s ((S.finds-part s (omega arith)).0 e))
+  full s h e = omega (arith, S.shorter s ((S.finds_part s (omega arith)).0 e))
 
   stays : (s t : List ℕ) → (scan F s ≡ part → ⊥) → scan F (s ++ t) ≡ scan F s
   stays s t h = go (scan F s) refl
     where
       go : (x : Found) → scan F s ≡ x → scan F (s ++ t) ≡ scan F s
-      go (well c m) e = S.well-stays s t c m e ∙ sym e
+      go (well c m) e = S.well_stays s t c m e ∙ sym e
       go part e = absurd (h e)
-      go (bad m) e = S.bad-stays s t m e ∙ sym e
+      go (bad m) e = S.bad_stays s t m e ∙ sym e
 
   module _ {s : Record} (l : length s.bytes ≡ 14) (H : Holding F s) (i : List ℕ) where
     abbrev n : ℕ
@@ -111,11 +111,11 @@ module _ {F : Form} (S : Scans F 6) where
     unfolding padded
     all-padded e =
         let z : drop (n + m) d ≡ replicate (14 - (n + m)) 0 =
-        sym (drop-drop m n d) ∙ ap (drop m) H.clear ∙ drop-zeros m (14 - n) ∙ zeros (14 - n - m) (14 - (n + m)) (omega arith) in
+        sym (drop-drop m n d) ∙ ap (drop m) H.clear ∙ drop_zeros m (14 - n) ∙ zeros (14 - n - m) (14 - (n + m)) (omega arith) in
         ap₂ (λ (x y : List ℕ). take n d ++ x ++ y) (take_all m i (omega (arith, all_in e))) (z ∙ zeros (14 - (n + m)) (14 - length (used s ++ i)) (omega (arith, all-length e)))
 
     -- its bytes are then the next state's
-    pub held-state : scan F (used s ++ i) ≡ part → (n + m ≡ 0 → ⊥) → recordOf (hold (used s ++ i)) ≡ record { kind = 1; count = n + m; bytes = paste d n i m }
+    pub held-state : scan F (used s ++ i) ≡ part → (n + m ≡ 0 → ⊥) → record_of (hold (used s ++ i)) ≡ record { kind = 1; count = n + m; bytes = paste d n i m }
     held-state e h = hold-some (used s ++ i) (omega (arith, all-length e, h)) ∙ rw (all-length e, all-padded e) refl
 
     pub none-held : scan F (used s ++ i) ≡ part → n + m ≡ 0 → hold (used s ++ i) ≡ starting
@@ -126,19 +126,19 @@ module _ {F : Form} (S : Scans F 6) where
     by : (W : Width) (x : Found) → scan F (used s ++ i) ≡ x → step F W s i ≡ reads W (used s) i x
     by W x e = H.reads_on W i ∙ ap (reads W (used s) i) e
 
-    pub reads_none : scan F (used s ++ i) ≡ part → n + m ≡ 0 → Says F s i (Done Incomplete) (recordOf starting)
+    pub reads_none : scan F (used s ++ i) ≡ part → n + m ≡ 0 → Says F s i (Done Incomplete) (record_of starting)
     reads_none e h W = by W part e ∙ ap (to (tell incomplete 2 0 (length i) 0)) (none-held e h)
 
     pub reads-some : scan F (used s ++ i) ≡ part → (n + m ≡ 0 → ⊥) → Says F s i (Done Incomplete) (record { kind = 1; count = n + m; bytes = paste d n i m })
     reads-some e h W = by W part e ∙ ap (λ (t : Record). record { answer = tell incomplete 2 0 (length i) 0; next = t }) (held-state e h)
 
-    pub reads-bad : (k : ℕ) → scan F (used s ++ i) ≡ bad k → Says F s i (Done (Bad n (max 1 k))) (recordOf starting)
-    reads-bad k e W = by W (bad k) e ∙ ap (λ (h : ℕ). to (tell-bad h (max 1 k)) starting) held-length
+    pub reads-bad : (k : ℕ) → scan F (used s ++ i) ≡ bad k → Says F s i (Done (Bad n (max 1 k))) (record_of starting)
+    reads-bad k e W = by W (bad k) e ∙ ap (λ (h : ℕ). to (tell_bad h (max 1 k)) starting) held-length
 
-    pub reads-null : (c k : ℕ) → scan F (used s ++ i) ≡ well c k → c ≡ 0 → Says F s i (Done Null) (recordOf starting)
+    pub reads-null : (c k : ℕ) → scan F (used s ++ i) ≡ well c k → c ≡ 0 → Says F s i (Done Null) (record_of starting)
     reads-null c k e z W = by W (well c k) e ∙ rw (eq-eqb c 0 z) refl
 
-    pub reads-code : (c k : ℕ) → scan F (used s ++ i) ≡ well c k → (c ≡ 0 → ⊥) → Says F s i (Code c (k - n)) (recordOf starting)
+    pub reads-code : (c k : ℕ) → scan F (used s ++ i) ≡ well c k → (c ≡ 0 → ⊥) → Says F s i (Code c (k - n)) (record_of starting)
     reads-code c k e z = (λ W. by W (well c k) e ∙ rw (ne_eqb c 0 z) (ap (λ (h : ℕ). convert W c (k - h)) held-length), refl)
 
     pub code-after : (c k : ℕ) → scan F (used s ++ i) ≡ well c k → n < k

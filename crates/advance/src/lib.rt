@@ -1,4 +1,6 @@
 // What the reading steps share: held bytes, advanced over the input.
+#![tactic(auto)]
+
 ghost use Rattle.std.specs.Prelude.{◌≡◌, ◌+◌, ◌≤◌, min};
 ghost use Rattle.std.proofs.Math.Seq.{paste};
 ghost use Rattle.forms.specs.Forms.{rows_of};

@@ -1,4 +1,6 @@
 // Bytes that are read by themselves, in a leap.
+#![tactic(auto)]
+
 ghost use Rattle.std.specs.Prelude.{◌≡◌, ◌&&◌, ◌||◌, ltb};
 ghost use Rattle.readings.specs.Come.{single};
 

@@ -1,9 +1,11 @@
 // 16-bit units back to bytes: what a unit gives, alone and after another.
+#![tactic(auto)]
+
 ghost use Rattle.std.specs.Prelude.{◌≡◌, [], ◌∷◌};
 ghost use Rattle.form.specs.Table.{plain};
 ghost use Rattle.form.specs.Text.{sequence};
 ghost use Rattle.state.specs.Meaning.{starting};
-ghost use Rattle.back.specs.Back.{bytes, backOf, tell, to, refuse, alone, after};
+ghost use Rattle.back.specs.Back.{bytes, back_of, tell, to, refuse, alone, after};
 
 use forms::Form;
 use state::Record;
@@ -32,7 +34,7 @@ pub struct Written {
 
 // The sequence of a code.
 fn bytes_back(c: u32) -> Written
-    ensures { backOf result ≡ to (tell bytes 0 (sequence plain c) 0) starting }
+    ensures { back_of result ≡ to (tell bytes 0 (sequence plain c) 0) starting }
 {
     let w = sequence::bytes_of(Form::Plain, c);
     let b = w.bytes;
@@ -58,14 +60,14 @@ fn no_bytes(answer: Back, next: Record) -> Written
 
 // A unit in a state that is not the step back's.
 pub fn refused(s: Record) -> Written
-    ensures { backOf result ≡ refuse s }
+    ensures { back_of result ≡ refuse s }
 {
     no_bytes(Back::Refused, s)
 }
 
 // A unit after nothing.
 pub fn back_alone(u: u16) -> Written
-    ensures { backOf result ≡ alone u }
+    ensures { back_of result ≡ alone u }
 {
     match u {
         0xD800..=0xDBFF => no_bytes(Back::Held, state::of_unit(state::HIGH, u)),
@@ -76,7 +78,7 @@ pub fn back_alone(u: u16) -> Written
 
 // A unit after the high surrogate h.
 pub fn back_after(h: u16, u: u16) -> Written
-    ensures { backOf result ≡ after h u }
+    ensures { back_of result ≡ after h u }
 {
     match u {
         0xDC00..=0xDFFF => bytes_back(utf16::code_of_pair(h, u)),

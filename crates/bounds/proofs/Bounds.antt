@@ -12,7 +12,7 @@ use Rattle.form.specs.Scan.{Found, well, part, bad, scan}
 use Rattle.form.specs.Text.{Item, span, more, item, items, places, All}
 use Rattle.form.proofs.Tests.{open?}
 use Rattle.form.proofs.Laws.{Scans}
-use Rattle.form.proofs.Items.{items-skip, span_more, span-within}
+use Rattle.form.proofs.Items.{items_skip, span_more, span-within}
 use Rattle.bounds.specs.Cover.{place}
 
 module _ (F : Form) (o : T (open? F)) where
@@ -26,7 +26,7 @@ module _ (F : Form) (o : T (open? F)) where
       let e : drop (span i + p) (b ∷ s) ≡ drop p (drop (more i) s) =
       ap (λ (k : ℕ). drop (k + p) (b ∷ s)) (span_more F b s o) ∙ ap (λ (k : ℕ). drop k (b ∷ s)) (let z : suc (more i) + p ≡ suc (more i + p) = omega arith in z) ∙ sym (drop-drop p (more i) s)
       in
-      ap (drop j) (items-skip F (more i) s) ∙ items-from j (drop (more i) s) ∙ ap (λ (l : List Item). items F 0 (drop (place j l) (drop (more i) s))) (sym (items-skip F (more i) s))
+      ap (drop j) (items_skip F (more i) s) ∙ items-from j (drop (more i) s) ∙ ap (λ (l : List Item). items F 0 (drop (place j l) (drop (more i) s))) (sym (items_skip F (more i) s))
       ∙ ap (items F 0) (sym e)
 
   -- every place is within the bytes
@@ -36,7 +36,7 @@ module _ (F : Form) (o : T (open? F)) where
   place-within (suc j) (b ∷ s) =
       let i = item (scan F (b ∷ s)) b s in
       let h = place-within j (drop (more i) s) in
-      rw (items-skip F (more i) s) (omega (arith, h, length-drop (more i) s, span_more F b s o, span-within F b s))
+      rw (items_skip F (more i) s) (omega (arith, h, length-drop (more i) s, span_more F b s o, span-within F b s))
 
   -- and an item's place is before the end: s stands from p on, and k bytes of it belong to an item before
   pub places-inside : (s : List ℕ) (k p : ℕ) → All (λ q. q < p + length s) (places (p + k) (items F k s))
@@ -70,15 +70,15 @@ items-few F zero (b ∷ s) = omega (arith, items-few F (more (item (scan F (b �
 
 module _ (F : Form) (n : ℕ) (S : Scans F n) where
   never-part : {A : Type 0} (s : List ℕ) → n ≤ length s → 0 < length s → scan F s ≡ part → A
-  never-part s h g e = absurd (omega (arith, (S.shorter s ((S.finds-part s g).0 e)).1))
+  never-part s h g e = absurd (omega (arith, (S.shorter s ((S.finds_part s g).0 e)).1))
 
   pub found-stays : (s t : List ℕ) → n ≤ length s → 0 < length s → scan F (s ++ t) ≡ scan F s
   found-stays s t h g = go (scan F s) refl
     where
       go : (x : Found) → scan F s ≡ x → scan F (s ++ t) ≡ scan F s
-      go (well c m) e = S.well-stays s t c m e ∙ sym e
+      go (well c m) e = S.well_stays s t c m e ∙ sym e
       go part e = never-part s h g e
-      go (bad m) e = S.bad-stays s t m e ∙ sym e
+      go (bad m) e = S.bad_stays s t m e ∙ sym e
 
   -- what follows a decided front is not looked at
   pub item-front : (b : ℕ) (s u v : List ℕ) → n ≤ length s → 0 < length s → item (scan F s) b u ≡ item (scan F s) b v
@@ -99,11 +99,11 @@ module _ (F : Form) (n : ℕ) (S : Scans F n) where
   place-stays o z (suc j) (b ∷ s) t h =
       let i = item (scan F (b ∷ s)) b s in
       let u = drop (more i) s in
-      let a : items F (more i) s ≡ items F 0 u = items-skip F (more i) s in
+      let a : items F (more i) s ≡ items F 0 u = items_skip F (more i) s in
       let g : span i + place j (items F 0 u) + n ≤ length (b ∷ s) = rw (← a) h in
       let w : place j (items F 0 u) + n ≤ length u = omega (arith, span_more F b s o, span-within F b s, length-drop (more i) s, g) in
       let f : place j (items F 0 (u ++ t)) ≡ place j (items F 0 u) = place-stays o z j u t w in
       let d : items F (more i) (s ++ t) ≡ items F 0 (u ++ t) =
-      items-skip F (more i) (s ++ t) ∙ ap (items F 0) (drop-append-le (more i) s t (omega (arith, span_more F b s o, span-within F b s)))
+      items_skip F (more i) (s ++ t) ∙ ap (items F 0) (drop-append-le (more i) s t (omega (arith, span_more F b s o, span-within F b s)))
       in
       rw (item-stays b s t (omega (arith, g, span_more F b s o)), d, a, f) refl

@@ -39,9 +39,9 @@ covering-item (a ∷ l) q p r i h e = go (ltb p (q + span a)) refl e (covering-i
     go false x y ih = let (j, d, f, g, k) = ih (ltb-false p (q + span a) x) y in (suc j, d, f ∙ add_assoc q (span a) (place j l), g, k)
 
 -- one byte more in front
-cover-suc : (l : List Item) (q p : ℕ) → covering (suc q) l (suc p) ≡ shift 1 (covering q l p)
-cover-suc [] q p = refl
-cover-suc (i ∷ l) q p = go (ltb p (q + span i)) refl (cover-suc l (q + span i) p)
+cover_suc : (l : List Item) (q p : ℕ) → covering (suc q) l (suc p) ≡ shift 1 (covering q l p)
+cover_suc [] q p = refl
+cover_suc (i ∷ l) q p = go (ltb p (q + span i)) refl (cover_suc l (q + span i) p)
   where
     go : (t : Bool) → ltb p (q + span i) ≡ t → covering (suc (q + span i)) l (suc p) ≡ shift 1 (covering (q + span i) l p)
         → covering (suc q) (i ∷ l) (suc p) ≡ shift 1 (covering q (i ∷ l) p)
@@ -54,8 +54,8 @@ cover-suc (i ∷ l) q p = go (ltb p (q + span i)) refl (cover-suc l (q + span i)
         let z : suc q + span i ≡ suc (q + span i) = omega arith in
         rw (le-ltb (suc p) (suc q + span i) h, e) (ap (λ (k : ℕ). covering k l (suc p)) z ∙ ih)
 
-cover-next : (q : ℕ) (i : Item) → covers (1 + q) i ≡ covers (suc q) i
-cover-next q i = ap (λ (k : ℕ). covers k i) (let z : 1 + q ≡ suc q = omega arith in z)
+cover_next : (q : ℕ) (i : Item) → covers (1 + q) i ≡ covers (suc q) i
+cover_next q i = ap (λ (k : ℕ). covers k i) (let z : 1 + q ≡ suc q = omega arith in z)
 
 -- ---- the items of a form in which no sequence begins inside another
 
@@ -83,7 +83,7 @@ module _ (F : Form) (R : Regular F) (L : Leads F) where
       let i = item (scan F (b ∷ s)) b s in
       let e : 0 + span i ≡ suc (more i) = omega (arith, span_more F b s R.is_open) in
       let g : 0 + span i ≤ suc p = omega arith in
-      rw (le-ltb (suc p) (0 + span i) g) (ap (λ (k : ℕ). covering k (items F (more i) s) (suc p)) e ∙ cover-suc (items F (more i) s) (more i) p)
+      rw (le-ltb (suc p) (0 + span i) g) (ap (λ (k : ℕ). covering k (items F (more i) s) (suc p)) e ∙ cover_suc (items F (more i) s) (more i) p)
 
   -- the first item's later bytes end at q where no longer sequence stands in front
   more-most : (b : ℕ) (s : List ℕ) (q : ℕ) → ((d m : ℕ) → scan F (b ∷ s) ≡ well d m → suc q < m → ⊥) → more (item (scan F (b ∷ s)) b s) ≤ q
@@ -105,12 +105,12 @@ module _ (F : Form) (R : Regular F) (L : Leads F) where
   well-covers (b ∷ s) (suc k) zero p c n a h g e = absurd (omega arith)
   well-covers (b ∷ s) (suc k) (suc q) zero c n a h g e = absurd (omega arith)
   well-covers (b ∷ s) (suc k) (suc q) (suc p) c n a h g e =
-      cover-suc (items F k s) k p ∙ ap (shift 1) (well-covers s k q p c n (omega arith) (omega arith) (omega arith) e) ∙ cover-next q (coded c n)
+      cover_suc (items F k s) k p ∙ ap (shift 1) (well-covers s k q p c n (omega arith) (omega arith) (omega arith) e) ∙ cover_next q (coded c n)
   well-covers (b ∷ s) zero zero p c n a h g e = rw e (rw (lt-ltb p (0 + n) g) refl)
   well-covers (b ∷ s) zero (suc q) zero c n a h g e = absurd (omega arith)
   well-covers (b ∷ s) zero (suc q) (suc p) c n a h g e =
       let m = more-most b s q (λ d m f. inside b s d m q c n f e (omega arith)) in
-      past b s p (omega (arith, m)) ∙ ap (shift 1) (well-covers s (more (item (scan F (b ∷ s)) b s)) q p c n m (omega arith) (omega arith) e) ∙ cover-next q (coded c n)
+      past b s p (omega (arith, m)) ∙ ap (shift 1) (well-covers s (more (item (scan F (b ∷ s)) b s)) q p c n m (omega arith) (omega arith) e) ∙ cover_next q (coded c n)
 
   -- no well-formed sequence of s covers byte p
   abbrev pub Bare : List ℕ → ℕ → Type 0
@@ -122,19 +122,19 @@ module _ (F : Form) (R : Regular F) (L : Leads F) where
   bare-covers [] k p a h g = absurd (omega arith)
   bare-covers (b ∷ s) (suc k) zero a h g = absurd (omega arith)
   bare-covers (b ∷ s) (suc k) (suc p) a h g =
-      cover-suc (items F k s) k p ∙ ap (shift 1) (bare-covers s k p (omega arith) (omega arith) (λ q c n l m. g (suc q) c n (omega arith) (omega arith)))
-      ∙ cover-next p (item (scan F (drop p s)) (get_or s p 0) (drop (suc p) s))
+      cover_suc (items F k s) k p ∙ ap (shift 1) (bare-covers s k p (omega arith) (omega arith) (λ q c n l m. g (suc q) c n (omega arith) (omega arith)))
+      ∙ cover_next p (item (scan F (drop p s)) (get_or s p 0) (drop (suc p) s))
   bare-covers (b ∷ s) zero zero a h g = rw (lt-ltb 0 (0 + span (item (scan F (b ∷ s)) b s)) (omega (arith, span_more F b s R.is_open))) refl
   bare-covers (b ∷ s) zero (suc p) a h g =
       let m = more-most b s p (λ d m f x. g 0 d m (omega arith) (omega arith) f) in
       past b s p m ∙ ap (shift 1) (bare-covers s (more (item (scan F (b ∷ s)) b s)) p m (omega arith) (λ q c n l m. g (suc q) c n (omega arith) (omega arith)))
-      ∙ cover-next p (item (scan F (drop p s)) (get_or s p 0) (drop (suc p) s))
+      ∙ cover_next p (item (scan F (drop p s)) (get_or s p 0) (drop (suc p) s))
 
   -- at or past the end no item covers the byte
   cover-past : (s : List ℕ) (k p : ℕ) → length s ≤ p → covering k (items F k s) p ≡ none
   cover-past [] k p h = refl
   cover-past (b ∷ s) k zero h = absurd (omega arith)
-  cover-past (b ∷ s) (suc k) (suc p) h = cover-suc (items F k s) k p ∙ ap (shift 1) (cover-past s k p (omega arith))
+  cover-past (b ∷ s) (suc k) (suc p) h = cover_suc (items F k s) k p ∙ ap (shift 1) (cover-past s k p (omega arith))
   cover-past (b ∷ s) zero (suc p) h =
       past b s p (omega (arith, span_more F b s R.is_open, span-within F b s)) ∙ ap (shift 1) (cover-past s (more (item (scan F (b ∷ s)) b s)) p (omega arith))
 

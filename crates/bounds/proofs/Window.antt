@@ -62,7 +62,7 @@ module _ (F : Form) (k : ℕ) (A : Apart F k) where
         let N = p + suc k - a - (q - a) in
         let u : drop (q - a) w ≡ take N (drop q s) = from (q - a) ∙ ap (λ (x : ℕ). take N (drop x s)) z in
         let v : Codes F (take n (take N (drop q s))) c = rw (take-take n N (drop q s) (omega arith)) g in
-        let y : scan F (drop (q - a) w) ≡ well c n = rw u ((A.scans.finds-well (take N (drop q s)) c n).1 (v, omega (arith, length-take N (drop q s)))) in
+        let y : scan F (drop (q - a) w) ≡ well c n = rw u ((A.scans.finds_well (take N (drop q s)) c n).1 (v, omega (arith, length-take N (drop q s)))) in
         well-covers F A.regular A.leads s 0 q p c n (omega arith) l m e
         ∙ ap (λ (x : ℕ). covers x (coded c n)) (sym z)
         ∙ ap (shift a) (sym (well-covers F A.regular A.leads w 0 (q - a) (p - a) c n (omega arith) (omega arith) (omega arith) y))
@@ -72,7 +72,7 @@ module _ (F : Form) (k : ℕ) (A : Apart F k) where
     bare-there g q c n l m e =
         let N = p + suc k - a - q in
         let r : scan F (drop (a + q) s) ≡ well c n =
-        ap (scan F) (sym (take-append-drop N (drop (a + q) s))) ∙ A.scans.well-stays (take N (drop (a + q) s)) (drop N (drop (a + q) s)) c n (rw (← from q) e)
+        ap (scan F) (sym (take-append-drop N (drop (a + q) s))) ∙ A.scans.well_stays (take N (drop (a + q) s)) (drop N (drop (a + q) s)) c n (rw (← from q) e)
         in
         g (a + q) c n (omega arith) (omega arith) r
 

@@ -5,11 +5,11 @@ use Prim.Native.Nat.{ℕ, ◌/◌, ◌%◌, ◌<◌}
 use native.Mathlib.Omega.{arith}
 use lib.Dec.{eqb, eqb→eq}
 use Rattle.form.proofs.Between.{between-at}
-use Rattle.classes.specs.Class.{ranges, class_of, digitOf, classesOf}
+use Rattle.classes.specs.Class.{ranges, class_of, digit_of, classes_of}
 
 charted : ℕ → Bool
-charted b = eqb (digitOf (classesOf (b / 16)) (b % 16)) (class_of b)
+charted b = eqb (digit_of (classes_of (b / 16)) (b % 16)) (class_of b)
 
-pub chart-class : (b : ℕ) → b < 256 → digitOf (classesOf (b / 16)) (b % 16) ≡ class_of b
-unfolding ranges class_of digitOf classesOf charted
-chart-class b h = eqb→eq _ _ (between-at 0 256 charted tt b (omega arith) h)
+pub chart_class : (b : ℕ) → b < 256 → digit_of (classes_of (b / 16)) (b % 16) ≡ class_of b
+unfolding ranges class_of digit_of classes_of charted
+chart_class b h = eqb→eq _ _ (between-at 0 256 charted tt b (omega arith) h)

@@ -5,8 +5,8 @@ use native.Mathlib.Omega.{arith}
 use lib.Dec.{T, eqb, eqb→eq}
 
 -- a row, by a test that is computed at the k of its arm
-pub row-computed : {A : Type 0} (f : A → ℕ) (k x : A) (n : ℕ) → x ≡ k → T (eqb n (f k)) → n ≡ f x
-row-computed f k x n e t = eqb→eq n (f k) t ∙ ap f (sym e)
+pub row_computed : {A : Type 0} (f : A → ℕ) (k x : A) (n : ℕ) → x ≡ k → T (eqb n (f k)) → n ≡ f x
+row_computed f k x n e t = eqb→eq n (f k) t ∙ ap f (sym e)
 
 -- a number that is none of those below k, as a `match` leaves it
 abbrev pub NoneBelow : ℕ → ℕ → Type 0

@@ -24,13 +24,13 @@ ranges =
     ∷ []
 
 -- the number of the first range that has b, from 0 on
-abbrev pub first-in : List Range → ℕ → ℕ
-first-in [] b = zero
-first-in (r ∷ rs) b = cond (in? r b) zero (suc (first-in rs b))
+abbrev pub first_in : List Range → ℕ → ℕ
+first_in [] b = zero
+first_in (r ∷ rs) b = cond (in? r b) zero (suc (first_in rs b))
 
 -- the class of a byte
 unfoldable pub class_of : ℕ → ℕ
-class_of b = first-in ranges b
+class_of b = first_in ranges b
 
 -- the number whose n hex digits, from the right, are f 0, f 1 and so on
 abbrev pub digits : ℕ → (ℕ → ℕ) → ℕ
@@ -38,9 +38,9 @@ digits zero f = 0
 digits (suc n) f = f 0 + 16 * digits n (λ k. f (suc k))
 
 -- the hex digit at a place of a number of sixteen
-unfoldable pub digitOf : ℕ → ℕ → ℕ
-digitOf n k = cond (ltb k 16) (n / 2 ^ (4 * k) % 16) 0
+unfoldable pub digit_of : ℕ → ℕ → ℕ
+digit_of n k = cond (ltb k 16) (n / 2 ^ (4 * k) % 16) 0
 
 -- the classes of the bytes with the high digit h
-unfoldable pub classesOf : ℕ → ℕ
-classesOf h = digits 16 (λ k. class_of (h * 16 + k))
+unfoldable pub classes_of : ℕ → ℕ
+classes_of h = digits 16 (λ k. class_of (h * 16 + k))

@@ -1,10 +1,12 @@
 // The class of a byte: which of fifteen ranges it is in. A walk over the bytes of a sequence has to know no more of a byte.
+#![tactic(auto)]
+
 ghost use Rattle.std.specs.Prelude.{◌≡◌, ◌<◌};
-ghost use Rattle.classes.specs.Class.{digitOf, class_of, classesOf};
+ghost use Rattle.classes.specs.Class.{digit_of, class_of, classes_of};
 
 // The hex digit at a place of a number, from the right and from 0 on; 0 beyond the sixteenth.
 pub fn digit(digits: u64, place: usize) -> usize
-    ensures { result ≡ digitOf digits place }
+    ensures { result ≡ digit_of digits place }
 {
     if 15 < place {
         return 0;
@@ -16,7 +18,7 @@ pub fn digit(digits: u64, place: usize) -> usize
 // number for each arm it becomes a table in read-only memory.
 fn classes(high: u8) -> u64
     requires { high < 16 }
-    ensures { result ≡ classesOf high }
+    ensures { result ≡ classes_of high }
 {
     match high {
         // By low digit: FEDC_BA98_7654_3210.

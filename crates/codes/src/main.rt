@@ -4,6 +4,8 @@
 //
 // A byte that is part of no well-formed sequence is shown as the byte, <E2>, and with --why each stretch of them has a line that says why. All
 // input is read before anything is written, so that a refusal leaves standard output empty.
+#![tactic(auto)]
+
 ghost use Rattle.std.specs.Prelude.{◌≡◌, ◌<◌, ◌≤◌, length};
 
 use libc::{STDERR_FILENO, STDIN_FILENO, STDOUT_FILENO};

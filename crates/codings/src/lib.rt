@@ -1,8 +1,10 @@
 // What a caller speaks, and all that tells one coding from another: the table that decides, and the flag numbers that are refused.
+#![tactic(auto)]
+
 ghost use Rattle.std.specs.Prelude.{◌≡◌};
 ghost use Rattle.forms.specs.Forms.{rows_of};
 ghost use Rattle.flags.specs.Number.{flags_of};
-ghost use Rattle.codings.specs.Codings.{reader-form, writer-form, refuses-surro, reader-refuses-in, writer-refuses-in};
+ghost use Rattle.codings.specs.Codings.{reader_form, writer_form, refuses_surro, reader_refuses_in, writer_refuses_in};
 
 use flags::Flags;
 use forms::Form;
@@ -17,7 +19,7 @@ pub enum Coding {
 
 // The table that the reader goes by: SURRO widens that of UTF-8.
 pub fn reader_form(coding: Coding, m: Flags) -> Form
-    ensures { rows_of result ≡ reader-form coding m }
+    ensures { rows_of result ≡ reader_form coding m }
 {
     match coding {
         Coding::Utf8 => if m.surro { Form::Surro } else { Form::Plain },
@@ -27,7 +29,7 @@ pub fn reader_form(coding: Coding, m: Flags) -> Form
 
 // The table that the writer goes by, before the surrogates.
 pub fn writer_form(coding: Coding) -> Form
-    ensures { rows_of result ≡ writer-form coding }
+    ensures { rows_of result ≡ writer_form coding }
 {
     match coding {
         Coding::Utf8 => Form::Plain,
@@ -37,7 +39,7 @@ pub fn writer_form(coding: Coding) -> Form
 
 // SURRO, in a coding that does not let surrogates through.
 fn refuses_surro(coding: Coding, number: u32) -> bool
-    ensures { result ≡ refuses-surro coding (flags_of number) }
+    ensures { result ≡ refuses_surro coding (flags_of number) }
 {
     match coding {
         Coding::Utf8 => false,
@@ -47,7 +49,7 @@ fn refuses_surro(coding: Coding, number: u32) -> bool
 
 // Whether the reader refuses the flag number.
 pub fn reader_refuses_in(coding: Coding, number: u32) -> bool
-    ensures { result ≡ reader-refuses-in coding number }
+    ensures { result ≡ reader_refuses_in coding number }
 {
     if refuses_surro(coding, number) {
         return true;
@@ -57,7 +59,7 @@ pub fn reader_refuses_in(coding: Coding, number: u32) -> bool
 
 // Whether the writer refuses it.
 pub fn writer_refuses_in(coding: Coding, number: u32) -> bool
-    ensures { result ≡ writer-refuses-in coding number }
+    ensures { result ≡ writer_refuses_in coding number }
 {
     if refuses_surro(coding, number) {
         return true;

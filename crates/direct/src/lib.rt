@@ -1,4 +1,6 @@
 // The reader and the writer themselves, for a caller in C whose codes are numbers of 32 bits: the benchmark times them beside the entries.
+#![tactic(auto)]
+
 ghost use Rattle.std.specs.Prelude.{◌≡◌, ◌++◌, length, drop};
 ghost use Rattle.readings.specs.Reading.{decoding};
 ghost use Rattle.writings.specs.Writing.{encoding};

@@ -9,13 +9,13 @@ use lib.IntN.{ℤ, pos, neg_ℤ}
 use lib.ListN.{length}
 use borrow.Author.Tests.{eqb-true}
 use Rattle.codings.specs.declared.Coding.{Coding}
-use Rattle.readings.specs.Reading.{decoding-in}
+use Rattle.readings.specs.Reading.{decoding_in}
 use Rattle.readings.proofs.Theorems.{none-consumed, refuses-strict}
-use Rattle.writings.specs.Writing.{encoding-in}
+use Rattle.writings.specs.Writing.{encoding_in}
 use Rattle.writings.proofs.Theorems as Writer
 use Rattle.numbers.specs.Number.{low_first}
 use Rattle.quads.specs.Bytes.{laid, codes_of}
-use Rattle.entries.specs.Entry.{Entry, given, refused, is-report, in-limit, decode-entry-in, encode-entry-in}
+use Rattle.entries.specs.Entry.{Entry, given, refused, is_report, in_limit, decode_entry_in, encode_entry_in}
 
 abbrev minus_one : ℤ
 minus_one = neg_ℤ (pos 1)
@@ -46,22 +46,22 @@ tested : (t : Bool) (x y : Entry) (q k n l : ℕ) → Stopped x q k n l → (y.a
 tested true x y q k n l g h = g
 tested false x y q k n l g h = λ e. absurd (h e)
 
-pub decode-bad : (K : Coding) (s d : List ℕ) (f : ℕ) (r : List ℕ) → (decode-entry-in K s d f r).answer ≡ minus_one
-    → (k : ℕ) × (1 ≤ k) × ((decode-entry-in K s d f r).report ≡ low_first 8 0 ++ (k ∷ []))
-unfolding decode-entry-in
-decode-bad K s d f r e =
-    let R = decoding-in K f (length d / 4) s in
+pub decode_bad : (K : Coding) (s d : List ℕ) (f : ℕ) (r : List ℕ) → (decode_entry_in K s d f r).answer ≡ minus_one
+    → (k : ℕ) × (1 ≤ k) × ((decode_entry_in K s d f r).report ≡ low_first 8 0 ++ (k ∷ []))
+unfolding decode_entry_in
+decode_bad K s d f r e =
+    let R = decoding_in K f (length d / 4) s in
     let whole = given-bad R.number R.consumed (length R.codes) R.subpart (laid R.codes) d r in
-    let long = tested (in-limit s && in-limit d) _ (refused 8 d r) _ _ _ _ whole (above 6) in
-    let (q, n, t) = tested (is-report r) _ (refused 6 d r) _ _ _ _ long (above 4) e in
+    let long = tested (in_limit s && in_limit d) _ (refused 8 d r) _ _ _ _ whole (above 6) in
+    let (q, n, t) = tested (is_report r) _ (refused 6 d r) _ _ _ _ long (above 4) e in
     (R.subpart, (refuses-strict K f (length d / 4) s q).1.subpart.some, t ∙ ap (λ (k : ℕ). low_first 8 k ++ (R.subpart ∷ [])) (none-consumed K f (length d / 4) s n))
 
-pub encode-bad : (K : Coding) (s d : List ℕ) (f : ℕ) (r : List ℕ) → (encode-entry-in K s d f r).answer ≡ minus_one → (encode-entry-in K s d f r).report ≡ low_first 8 0 ++ (0 ∷ [])
-unfolding encode-entry-in
-encode-bad K s d f r e =
-    let W = encoding-in K f (length d) (codes_of s) in
+pub encode_bad : (K : Coding) (s d : List ℕ) (f : ℕ) (r : List ℕ) → (encode_entry_in K s d f r).answer ≡ minus_one → (encode_entry_in K s d f r).report ≡ low_first 8 0 ++ (0 ∷ [])
+unfolding encode_entry_in
+encode_bad K s d f r e =
+    let W = encoding_in K f (length d) (codes_of s) in
     let whole = given-bad W.number W.consumed (length W.written) 0 W.written d r in
     let odd = tested (eqb (length s % 4) 0) _ (refused 7 d r) _ _ _ _ whole (above 5) in
-    let long = tested (in-limit s && in-limit d) _ (refused 8 d r) _ _ _ _ odd (above 6) in
-    let (q, n, t) = tested (is-report r) _ (refused 6 d r) _ _ _ _ long (above 4) e in
+    let long = tested (in_limit s && in_limit d) _ (refused 8 d r) _ _ _ _ odd (above 6) in
+    let (q, n, t) = tested (is_report r) _ (refused 6 d r) _ _ _ _ long (above 4) e in
     t ∙ ap (λ (k : ℕ). low_first 8 k ++ (0 ∷ [])) (Writer.none-consumed K f (length d) (codes_of s) n)

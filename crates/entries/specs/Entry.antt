@@ -2,8 +2,8 @@
 use Rattle.std.specs.Prelude.{Bool, ◌&&◌, cond, List, [], ◌∷◌, ◌++◌, ℕ, ◌/◌, ◌%◌, eqb, leb, ℤ, pos, neg_ℤ, length}
 use Rattle.codings.specs.declared.Coding.{Coding}
 use Rattle.codings.specs.declared.Coding.TheVariants.{Utf8}
-use Rattle.readings.specs.Reading.{decoding-in}
-use Rattle.writings.specs.Writing.{encoding-in}
+use Rattle.readings.specs.Reading.{decoding_in}
+use Rattle.writings.specs.Writing.{encoding_in}
 use Rattle.numbers.specs.Number.{low_first, over}
 use Rattle.quads.specs.Bytes.{laid, codes_of}
 
@@ -30,34 +30,34 @@ given q consumed items subpart bytes output report =
     cond (eqb q 4) (refused 4 output report) (entry (answer_of q items) (over bytes output) (low_first 8 consumed ++ (subpart ∷ [])))
 
 -- a report has 9 bytes: 8 for the count, and 1 for the length
-abbrev pub is-report : List ℕ → Bool
-is-report r = eqb (length r) 9
+abbrev pub is_report : List ℕ → Bool
+is_report r = eqb (length r) 9
 
 -- a buffer has at most 1,048,576 bytes
-abbrev pub in-limit : List ℕ → Bool
-in-limit s = leb (length s) 1048576
+abbrev pub in_limit : List ℕ → Bool
+in_limit s = leb (length s) 1048576
 
 -- the reader's entry in a coding, in this order: 6, 8, 4
-unfoldable pub decode-entry-in : Coding → List ℕ → List ℕ → ℕ → List ℕ → Entry
-decode-entry-in K src codes flags report =
-    let R = decoding-in K flags (length codes / 4) src in
-    cond (is-report report)
-    (cond (in-limit src && in-limit codes) (given R.number R.consumed (length R.codes) R.subpart (laid R.codes) codes report) (refused 8 codes report))
+unfoldable pub decode_entry_in : Coding → List ℕ → List ℕ → ℕ → List ℕ → Entry
+decode_entry_in K src codes flags report =
+    let R = decoding_in K flags (length codes / 4) src in
+    cond (is_report report)
+    (cond (in_limit src && in_limit codes) (given R.number R.consumed (length R.codes) R.subpart (laid R.codes) codes report) (refused 8 codes report))
     (refused 6 codes report)
 
 -- the writer's, in this order: 6, 8, 7, 4
-unfoldable pub encode-entry-in : Coding → List ℕ → List ℕ → ℕ → List ℕ → Entry
-encode-entry-in K codes dst flags report =
-    let W = encoding-in K flags (length dst) (codes_of codes) in
-    cond (is-report report)
-    (cond (in-limit codes && in-limit dst)
+unfoldable pub encode_entry_in : Coding → List ℕ → List ℕ → ℕ → List ℕ → Entry
+encode_entry_in K codes dst flags report =
+    let W = encoding_in K flags (length dst) (codes_of codes) in
+    cond (is_report report)
+    (cond (in_limit codes && in_limit dst)
     (cond (eqb (length codes % 4) 0) (given W.number W.consumed (length W.written) 0 W.written dst report) (refused 7 dst report))
     (refused 8 dst report))
     (refused 6 dst report)
 
 -- and in UTF-8
-abbrev pub decode-entry : List ℕ → List ℕ → ℕ → List ℕ → Entry
-decode-entry = decode-entry-in Utf8
+abbrev pub decode_entry : List ℕ → List ℕ → ℕ → List ℕ → Entry
+decode_entry = decode_entry_in Utf8
 
-abbrev pub encode-entry : List ℕ → List ℕ → ℕ → List ℕ → Entry
-encode-entry = encode-entry-in Utf8
+abbrev pub encode_entry : List ℕ → List ℕ → ℕ → List ℕ → Entry
+encode_entry = encode_entry_in Utf8

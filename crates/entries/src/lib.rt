@@ -1,7 +1,9 @@
 // What the entries for C do, in any coding.
+#![tactic(auto)]
+
 ghost use Rattle.std.specs.Prelude.{◌≡◌, [], ◌∷◌, ◌++◌, ◌≤◌, length};
 ghost use Rattle.numbers.specs.Number.{low_first};
-ghost use Rattle.entries.specs.Entry.{entry, answer_of, decode-entry-in, encode-entry-in};
+ghost use Rattle.entries.specs.Entry.{entry, answer_of, decode_entry_in, encode_entry_in};
 
 use codings::Coding;
 
@@ -42,7 +44,7 @@ pub fn decode_entry(
     flags: u32,
     report: &mut [u8],
 ) -> i64
-    ensures { entry result codes.new report.new ≡ decode-entry-in coding src.now codes.old flags report.old }
+    ensures { entry result codes.new report.new ≡ decode_entry_in coding src.now codes.old flags report.old }
 {
     if report.len() != REPORT {
         return -6;
@@ -70,7 +72,7 @@ pub fn encode_entry(
     flags: u32,
     report: &mut [u8],
 ) -> i64
-    ensures { entry result dst.new report.new ≡ encode-entry-in coding codes.now dst.old flags report.old }
+    ensures { entry result dst.new report.new ≡ encode_entry_in coding codes.now dst.old flags report.old }
 {
     if report.len() != REPORT {
         return -6;

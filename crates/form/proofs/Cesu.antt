@@ -6,45 +6,45 @@ use Prim.Native.Nat.{ℕ, ◌+◌, ◌-◌, ◌*◌, ◌/◌, ◌%◌, ◌≤◌
 use native.Mathlib.Omega.{arith}
 use lib.ListN.{length}
 use borrow.Author.Tests.{lt-ltb, le-ltb}
-use Rattle.form.specs.Table.{◌to◌, tail, short-rows, pairs, cesu, In, Codes, WellFormed, scalars, Scalar, Escape}
-use Rattle.form.specs.Pattern.{bits, pattern, cesu-pattern}
-use Rattle.form.specs.Text.{All, unescape, sequence, Demand3, cesu-runs}
+use Rattle.form.specs.Table.{◌to◌, tail, short_rows, pairs, cesu, In, Codes, WellFormed, scalars, Scalar, Escape}
+use Rattle.form.specs.Pattern.{bits, pattern, cesu_pattern}
+use Rattle.form.specs.Text.{All, unescape, sequence, Demand3, cesu_runs}
 use Rattle.form.proofs.Tests.{Sound}
 use Rattle.form.proofs.Codes.{patterned, codes-append}
-use Rattle.form.proofs.Sequences.{no-sequence}
-use Rattle.form.proofs.Pattern.{each_row, Shape, tail-bits, shape-bits, shape-pattern}
+use Rattle.form.proofs.Sequences.{no_sequence}
+use Rattle.form.proofs.Pattern.{each_row, Shape, tail-bits, shape_bits, shape_pattern}
 use Rattle.form.proofs.Runs.{run_length}
 use Rattle.form.proofs.Demand.{demand3}
 use Rattle.form.proofs.EncodingForms.{EncodingForm, encoding-form}
 
-pub cesu-sound : Sound cesu cesu-runs
+pub cesu_sound : Sound cesu cesu_runs
 unfolding cesu
-cesu-sound =
+cesu_sound =
     record {
-      regular = record { is_some = tt; is_open = tt; is-proper = tt; is-distinct = tt };
-      is-uncut = tt;
-      is-ascending = tt;
-      is-scalars = tt;
-      is-low = tt;
-      is-long = tt;
+      regular = record { is_some = tt; is_open = tt; is_proper = tt; is_distinct = tt };
+      is_uncut = tt;
+      is_ascending = tt;
+      is_scalars = tt;
+      is_low = tt;
+      is_long = tt;
     }
 
-pub cesu-form : EncodingForm cesu 6
+pub cesu_form : EncodingForm cesu 6
 unfolding cesu
-cesu-form = encoding-form cesu cesu-runs 6 cesu-sound tt (omega arith)
+cesu_form = encoding-form cesu cesu_runs 6 cesu_sound tt (omega arith)
 
-pub cesu-demand3 : Demand3 cesu cesu-runs
-cesu-demand3 = demand3 cesu cesu-runs cesu-sound
+pub cesu_demand3 : Demand3 cesu cesu_runs
+cesu_demand3 = demand3 cesu cesu_runs cesu_sound
 
 -- neighbouring escapes that stand for one well-formed sequence are two, three or six
-pub cesu-run : (m : List ℕ) → All Escape m → WellFormed cesu (map unescape m) → Memᴰ (length m) cesu-runs
-cesu-run = run_length cesu-runs cesu cesu-sound.is-long
+pub cesu-run : (m : List ℕ) → All Escape m → WellFormed cesu (map unescape m) → Memᴰ (length m) cesu_runs
+cesu-run = run_length cesu_runs cesu cesu_sound.is_long
 
 -- ---- six bytes: two surrogates of three bytes, with ten bits each
 
 -- the three bytes of a surrogate
 half : (b x c : ℕ) → In tail b → In tail x → c ≡ 0xD000 + (b - 0x80) * 0x40 + (x - 0x80) → pattern c ≡ 0xED ∷ b ∷ x ∷ []
-half b x c p q e = sym (shape-pattern (0xED ∷ b ∷ x ∷ []) c (omega arith, omega arith, omega arith, p, q, omega arith))
+half b x c p q e = sym (shape_pattern (0xED ∷ b ∷ x ∷ []) c (omega arith, omega arith, omega arith, p, q, omega arith))
 
 -- a surrogate's second byte, from `mark` on, its third, and its low ten bits n
 abbrev Half : ℕ → ℕ → ℕ → ℕ → Type 0
@@ -64,8 +64,8 @@ low_half b x n (p, q, e) =
 halves : (n m c : ℕ) → n < 0x400 → m < 0x400 → c ≡ 0x10000 + n * 0x400 + m → (0x10000 ≤ c) × ((c - 0x10000) / 0x400 ≡ n) × ((c - 0x10000) % 0x400 ≡ m)
 halves n m c h g e = (omega arith, omega arith, omega arith)
 
-both_halves : (n m c : ℕ) (v w : List ℕ) → n < 0x400 → m < 0x400 → c ≡ 0x10000 + n * 0x400 + m → pattern (0xD800 + n) ≡ v → pattern (0xDC00 + m) ≡ w → v ++ w ≡ cesu-pattern c
-unfolding cesu-pattern
+both_halves : (n m c : ℕ) (v w : List ℕ) → n < 0x400 → m < 0x400 → c ≡ 0x10000 + n * 0x400 + m → pattern (0xD800 + n) ≡ v → pattern (0xDC00 + m) ≡ w → v ++ w ≡ cesu_pattern c
+unfolding cesu_pattern
 both_halves n m c v w h g e p q =
     let (l, i, j) = halves n m c h g e in
     simp (le-ltb c 0x10000 l) (rw (i, j, p, q) refl)
@@ -73,7 +73,7 @@ both_halves n m c v w h g e p q =
 -- ---- the pattern, in both directions
 
 abbrev Patterned : List ℕ → ℕ → Type 0
-Patterned w c = (w ≡ cesu-pattern c) × (c ≡ bits w)
+Patterned w c = (w ≡ cesu_pattern c) × (c ≡ bits w)
 
 pair : (b x e y c : ℕ) → In (0xA0 to 0xAF) b → In tail x → In (0xB0 to 0xBF) e → In tail y
     → c ≡ 0x10000 + ((b - 0xA0) * 0x40 + (x - 0x80)) * 0x400 + ((e - 0xB0) * 0x40 + (y - 0x80)) → Patterned (0xED ∷ b ∷ x ∷ 0xED ∷ e ∷ y ∷ []) c
@@ -88,36 +88,36 @@ long =
     ((λ a p b q x r d s e t y u. let i : a ≡ 0xED = omega arith in let j : d ≡ 0xED = omega arith in rw (i, j) (pair b x e y _ q r t u (omega arith))), tt)
 
 -- up to FFFF Table 3-6's
-short : (w : List ℕ) (c : ℕ) → Codes (short-rows 0x9F) w c → (c < 0x10000) × Shape w c
-short = each_row (short-rows 0x9F) (λ w c. (c < 0x10000) × Shape w c) (omega arith, (omega arith, (omega arith, (omega arith, (omega arith, (omega arith, tt))))))
+short : (w : List ℕ) (c : ℕ) → Codes (short_rows 0x9F) w c → (c < 0x10000) × Shape w c
+short = each_row (short_rows 0x9F) (λ w c. (c < 0x10000) × Shape w c) (omega arith, (omega arith, (omega arith, (omega arith, (omega arith, (omega arith, tt))))))
 
-pub cesu-short : (c : ℕ) → c < 0x10000 → cesu-pattern c ≡ pattern c
-unfolding cesu-pattern
+pub cesu-short : (c : ℕ) → c < 0x10000 → cesu_pattern c ≡ pattern c
+unfolding cesu_pattern
 cesu-short c l = simp (lt-ltb c 0x10000 l)
 
-is-patterned : (w : List ℕ) (c : ℕ) → Codes cesu w c → Patterned w c
+is_patterned : (w : List ℕ) (c : ℕ) → Codes cesu w c → Patterned w c
 unfolding cesu
-is-patterned w c h =
-    ⊎_elim (λ u. let (l, s) = short w c u in (shape-pattern w c s ∙ sym (cesu-short c l), shape-bits w c s)) (long w c) (codes-append (short-rows 0x9F) (pairs ∷ []) w c h)
+is_patterned w c h =
+    ⊎_elim (λ u. let (l, s) = short w c u in (shape_pattern w c s ∙ sym (cesu-short c l), shape_bits w c s)) (long w c) (codes-append (short_rows 0x9F) (pairs ∷ []) w c h)
 
 pub cesu-bits : (w : List ℕ) (c : ℕ) → Codes cesu w c → c ≡ bits w
-cesu-bits w c h = (is-patterned w c h).1
+cesu-bits w c h = (is_patterned w c h).1
 
 -- CESU-8 is its pattern on the scalar values: each has that one sequence, and there are no others
-pub cesu-patterned : (w : List ℕ) (c : ℕ) → Codes cesu w c ↔ (Scalar c × (w ≡ cesu-pattern c))
-cesu-patterned = patterned cesu scalars cesu-pattern cesu-sound.is-scalars (λ w c h. (is-patterned w c h).0)
+pub cesu_patterned : (w : List ℕ) (c : ℕ) → Codes cesu w c ↔ (Scalar c × (w ≡ cesu_pattern c))
+cesu_patterned = patterned cesu scalars cesu_pattern cesu_sound.is_scalars (λ w c h. (is_patterned w c h).0)
 
 -- ---- the sequence of a code
 
-pub cesu-scalar : (c : ℕ) → Scalar c → sequence cesu c ≡ cesu-pattern c
-cesu-scalar c s = cesu-form.only (cesu-pattern c) c ((cesu-patterned (cesu-pattern c) c).1 (s, refl))
+pub cesu-scalar : (c : ℕ) → Scalar c → sequence cesu c ≡ cesu_pattern c
+cesu-scalar c s = cesu_form.only (cesu_pattern c) c ((cesu_patterned (cesu_pattern c) c).1 (s, refl))
 
 pub cesu-none : (c : ℕ) → (Scalar c → ⊥) → sequence cesu c ≡ []
-cesu-none c h = no-sequence cesu c (λ w u. h (cesu-form.scalar w c u))
+cesu-none c h = no_sequence cesu c (λ w u. h (cesu_form.scalar w c u))
 
 -- the six bytes of a code above FFFF, by the halves of its 20 bits
 pub cesu-long : (c n m : ℕ) → n ≡ (c - 0x10000) / 0x400 → m ≡ (c - 0x10000) % 0x400 → 0x10000 ≤ c → c ≤ 0x10FFFF
-    → cesu-pattern c ≡ 0xED ∷ (0xA0 + n / 0x40) ∷ (0x80 + n % 0x40) ∷ 0xED ∷ (0xB0 + m / 0x40) ∷ (0x80 + m % 0x40) ∷ []
+    → cesu_pattern c ≡ 0xED ∷ (0xA0 + n / 0x40) ∷ (0x80 + n % 0x40) ∷ 0xED ∷ (0xB0 + m / 0x40) ∷ (0x80 + m % 0x40) ∷ []
 cesu-long c n m p q l h =
     let i : n < 0x400 = omega arith in
     let j : m < 0x400 = omega arith in

@@ -10,13 +10,13 @@ use lib.ListN.{length}
 use Rattle.form.specs.Table.{Range, ◌to◌, row, Form, plain, In, Fits, size, index, Codes, scalars, Scalar}
 use Rattle.form.specs.Scan.{part, scan}
 use Rattle.form.specs.Text.{digits, sequence, All, plain_runs}
-use Rattle.form.proofs.Tests.{at_most, low, tiles, within, later-within, Sound}
+use Rattle.form.proofs.Tests.{at_most, low, tiles, within, later_within, Sound}
 use Rattle.form.proofs.Rows.{both}
 use Rattle.form.proofs.Part.{codes-length}
 use Rattle.form.proofs.After.{scan-nil}
-use Rattle.form.proofs.Codes.{codes-iff, codes-sequence, sequence-codes}
+use Rattle.form.proofs.Codes.{codes_iff, codes-sequence, sequence-codes}
 use Rattle.form.proofs.Laws.{Scans, scans}
-use Rattle.form.proofs.Utf8.{plain-sound}
+use Rattle.form.proofs.Utf8.{plain_sound}
 
 -- each scalar value has one sequence, no other number has any, and the longest has n bytes, more than one
 pub record EncodingForm (F : Form) (n : ℕ) : Type 0 where
@@ -58,22 +58,22 @@ low-codes (row k (lo to hi ∷ r ∷ rs) ∷ F) c t u h = absurd t
 
 module _ (F : Form) (runs : List ℕ) (n : ℕ) (S : Sound F runs) (a : T (at_most n F)) (l : 1 < n) where
   only : (w : List ℕ) (c : ℕ) → Codes F w c → sequence F c ≡ w
-  only w c h = ap (λ (G : Form). sequence G c) (sym (append-nil F)) ∙ codes-sequence F [] 0 w c S.is-ascending h
+  only w c h = ap (λ (G : Form). sequence G c) (sym (append-nil F)) ∙ codes-sequence F [] 0 w c S.is_ascending h
 
   pub encoding-form : EncodingForm F n
   encoding-form =
       record {
-        scans = scans F n S.regular a S.is-low;
+        scans = scans F n S.regular a S.is_low;
         long = l;
         nil = scan-nil F S.regular.is_some S.regular.is_open;
         most = λ w c. codes-length n F w c a;
         few = λ c. sequence-few n F c a;
-        scalar = λ w c h. (codes-iff F scalars c S.is-scalars).0 (w, h);
+        scalar = λ w c h. (codes_iff F scalars c S.is_scalars).0 (w, h);
         only = only;
-        some = λ c s. rw (append-nil F) at (sequence-codes F [] scalars c S.is-ascending S.is-scalars s);
+        some = λ c s. rw (append-nil F) at (sequence-codes F [] scalars c S.is_ascending S.is_scalars s);
         ascii =
             λ w c h.
-            let e = low-codes F c S.is-low S.is-scalars h in
+            let e = low-codes F c S.is_low S.is_scalars h in
             (λ k. sym (only w c k) ∙ only (c ∷ []) c e, λ k. rw k e);
       }
 
@@ -88,15 +88,15 @@ fits-within (lo to hi) (a to z ∷ rs) (b ∷ w) t h =
     let (l, g) = both (leb lo a) (leb z hi) p in
     ((omega (arith, leb→le lo a l), omega (arith, leb→le z hi g)), fits-within (lo to hi) rs w q h.1)
 
-pub later-in : (r : Range) (F : Form) (b : ℕ) (w : List ℕ) (c : ℕ) → T (later-within r F) → Codes F (b ∷ w) c → All (In r) w
-later-in r [] b w c t h = absurd h
-later-in r (row k [] ∷ F) b w c t h = absurd t
-later-in r (row k (q ∷ rs) ∷ F) b w c t h =
-    let (p, u) = both (within r rs) (later-within r F) t in
-    ⊎_elim (λ (g : Fits (q ∷ rs) (b ∷ w) × (c ≡ k + index (q ∷ rs) (b ∷ w))). fits-within r rs w p g.0.1) (λ g. later-in r F b w c u g) h
+pub later_in : (r : Range) (F : Form) (b : ℕ) (w : List ℕ) (c : ℕ) → T (later_within r F) → Codes F (b ∷ w) c → All (In r) w
+later_in r [] b w c t h = absurd h
+later_in r (row k [] ∷ F) b w c t h = absurd t
+later_in r (row k (q ∷ rs) ∷ F) b w c t h =
+    let (p, u) = both (within r rs) (later_within r F) t in
+    ⊎_elim (λ (g : Fits (q ∷ rs) (b ∷ w) × (c ≡ k + index (q ∷ rs) (b ∷ w))). fits-within r rs w p g.0.1) (λ g. later_in r F b w c u g) h
 
 -- ---- plain UTF-8
 
 pub plain_form : EncodingForm plain 4
 unfolding plain
-plain_form = encoding-form plain plain_runs 4 plain-sound tt (omega arith)
+plain_form = encoding-form plain plain_runs 4 plain_sound tt (omega arith)

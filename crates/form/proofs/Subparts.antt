@@ -33,10 +33,10 @@ stray-within F b s n = go (scan F (b ∷ s)) refl
 module _ {F : Form} {k : ℕ} (S : Scans F k) where
   pub bad-subpart : (s : List ℕ) (n : ℕ) → scan F s ≡ bad n → Subpart F s (max 1 n)
   bad-subpart s zero e =
-      let (z, l) = (S.finds-bad s 0).0 e in
+      let (z, l) = (S.finds_bad s 0).0 e in
       record { some = omega arith; within = omega (arith, l.inside); begins = λ h. absurd (omega arith); longest = λ m h g b. l.longest m (omega arith) b }
   bad-subpart s (suc n) e =
-      let (z, l) = (S.finds-bad s (suc n)).0 e in
+      let (z, l) = (S.finds_bad s (suc n)).0 e in
       let i : max 1 (suc n) ≡ suc n = omega arith in
       rw i (record { some = omega arith; within = omega (arith, l.inside); begins = λ h. l.begun; longest = λ m h g b. l.longest m h b })
 
@@ -48,14 +48,14 @@ module _ {F : Form} {k : ℕ} (S : Scans F k) where
       go (bad m) e h = let i : n ≡ max 1 m = cc in rw i (bad-subpart (b ∷ s) m e)
       go part e h =
           let i : n ≡ suc (length s) = cc in
-          let (l, (t, p, w)) = (S.finds-part (b ∷ s) (omega arith)).0 e in
+          let (l, (t, p, w)) = (S.finds_part (b ∷ s) (omega arith)).0 e in
           let d : take (suc (length s)) (b ∷ s) ≡ b ∷ s = take_all (suc (length s)) (b ∷ s) (omega arith) in
           rw i (record { some = omega arith; within = omega arith; begins = λ h. subst (Begins F) (sym d) (t, w); longest = λ m h g q. omega arith })
 
   pub stray-none : (b : ℕ) (s : List ℕ) (n : ℕ) → item (scan F (b ∷ s)) b s ≡ stray b n → StartsNone F (b ∷ s)
   stray-none b s n h w t e (c, v) =
       let q : take (length w) (b ∷ s) ≡ w = ap (take (length w)) e ∙ take-append_seam w t in
-      let f = (S.finds-well (b ∷ s) c (length w)).1 (subst (λ (l : List ℕ). Codes F l c) (sym q) v, omega (arith, ap length e, length-append w t)) in
+      let f = (S.finds_well (b ∷ s) c (length w)).1 (subst (λ (l : List ℕ). Codes F l c) (sym q) v, omega (arith, ap length e, length-append w t)) in
       let z : ◌≡◌ {A = ℕ} 0 1 = cc (rw f at h) in
       omega arith
 
@@ -74,7 +74,7 @@ module _ {F : Form} {k : ℕ} (S : Scans F k) where
       go (no h) = omega (arith, (S.shorter (take n s) (proper (p.begins (omega arith)) (omega arith))).1, length-take-le n s p.within)
 
   pub bad-short : 1 < k → (s : List ℕ) (n : ℕ) → scan F s ≡ bad n → max 1 n < k
-  bad-short l s n e = subpart-short l s (max 1 n) ((S.finds-bad s n).0 e).0 (bad-subpart s n e)
+  bad-short l s n e = subpart-short l s (max 1 n) ((S.finds_bad s n).0 e).0 (bad-subpart s n e)
 
 -- the whole of a partial sequence
 pub subpart-partial : (F : Form) (s : List ℕ) (n : ℕ) → Partial F s → Subpart F s n → n ≡ length s

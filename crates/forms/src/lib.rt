@@ -1,5 +1,7 @@
 // The forms by value, for code that is given one.
 // The table that decides.
+#![tactic(auto)]
+
 #[derive(Drop)]
 pub enum Form {
     // Plain UTF-8.

@@ -9,20 +9,20 @@ use borrow.Author.Rules.{part_to_end}
 use Rattle.form.specs.Table.{plain}
 use Rattle.form.specs.Scan.{scan}
 use Rattle.form.specs.Text.{Item, coded, stray, span, code, more, item, items, places}
-use Rattle.form.proofs.Items.{items-skip, span_more, span-within}
+use Rattle.form.proofs.Items.{items_skip, span_more, span-within}
 use Rattle.form.proofs.Utf8.{plain-regular}
 use Rattle.item.specs.declared.Leaf.{Leaf}
-use Rattle.item.specs.Leaf.{leaf, leafOf}
+use Rattle.item.specs.Leaf.{leaf, leaf_of}
 
 -- the item at a place, as it was told, and those behind it
 pub record Here (s : List ℕ) (at : ℕ) (r : Leaf) : Type 0 where
   pub the : Item
-  pub leaf-is : r ≡ leaf the
-  pub span-is : r.span ≡ span the
+  pub leaf_is : r ≡ leaf the
+  pub span_is : r.span ≡ span the
   pub code_is : r.code ≡ code the
   pub some : 0 < r.span
   pub within : at + r.span ≤ length s
-  pub items-are : items plain 0 (drop at s) ≡ the ∷ items plain 0 (drop (at + r.span) s)
+  pub items_are : items plain 0 (drop at s) ≡ the ∷ items plain 0 (drop (at + r.span) s)
 
 leaf-span : (i : Item) → (leaf i).span ≡ span i
 leaf-span (coded c n) = refl
@@ -32,15 +32,15 @@ leaf-code : (i : Item) → (leaf i).code ≡ code i
 leaf-code (coded c n) = refl
 leaf-code (stray b n) = refl
 
-pub here : (s : List ℕ) (at : ℕ) (r : Leaf) → at < length s → r ≡ leafOf (drop at s) → Here s at r
-unfolding leafOf
+pub here : (s : List ℕ) (at : ℕ) (r : Leaf) → at < length s → r ≡ leaf_of (drop at s) → Here s at r
+unfolding leaf_of
 here s at r h e = go (drop at s) refl
   where
     go : (u : List ℕ) → drop at s ≡ u → Here s at r
     go [] f = absurd (omega (arith, length-drop at s, ap length f))
     go (b ∷ u) f =
         let i = item (scan plain (b ∷ u)) b u in
-        let g : r ≡ leaf i = e ∙ ap leafOf f in
+        let g : r ≡ leaf i = e ∙ ap leaf_of f in
         let p : r.span ≡ span i = ap (λ (x : Leaf). x.span) g ∙ leaf-span i in
         let m = span_more plain b u plain-regular.is_open in
         let d : drop (more i) u ≡ drop (at + r.span) s =
@@ -48,17 +48,17 @@ here s at r h e = go (drop at s) refl
         in
         record {
           the = i;
-          leaf-is = g;
-          span-is = p;
+          leaf_is = g;
+          span_is = p;
           code_is = ap (λ (x : Leaf). x.code) g ∙ leaf-code i;
           some = omega arith;
           within = omega (arith, span-within plain b u, length-drop at s, ap length f);
-          items-are = ap (items plain 0) f ∙ ap (λ (l : List Item). i ∷ l) (items-skip plain (more i) u ∙ ap (items plain 0) d);
+          items_are = ap (items plain 0) f ∙ ap (λ (l : List Item). i ∷ l) (items_skip plain (more i) u ∙ ap (items plain 0) d);
         }
 
 -- as a caller has it of `&s[at..]`
-pub here-part : (s : List ℕ) (at : ℕ) (r : Leaf) → at < length s → r ≡ leafOf (take (length s - at) (drop at s)) → Here s at r
-here-part s at r h e = here s at r h (e ∙ ap leafOf (part_to_end s at))
+pub here-part : (s : List ℕ) (at : ℕ) (r : Leaf) → at < length s → r ≡ leaf_of (take (length s - at) (drop at s)) → Here s at r
+here-part s at r h e = here s at r h (e ∙ ap leaf_of (part_to_end s at))
 
 -- ---- the span alone
 
@@ -66,15 +66,15 @@ here-part s at r h e = here s at r h (e ∙ ap leafOf (part_to_end s at))
 pub record Step (s : List ℕ) (at n : ℕ) : Type 0 where
   pub some : 0 < n
   pub within : at + n ≤ length s
-  pub places-are : (p : ℕ) → places p (items plain 0 (drop at s)) ≡ p ∷ places (p + n) (items plain 0 (drop (at + n) s))
+  pub places_are : (p : ℕ) → places p (items plain 0 (drop at s)) ≡ p ∷ places (p + n) (items plain 0 (drop (at + n) s))
 
 -- as a caller has it of `&s[at..]`
-pub step_part : (s : List ℕ) (at n : ℕ) → at < length s → n ≡ (leafOf (take (length s - at) (drop at s))).span → Step s at n
+pub step_part : (s : List ℕ) (at n : ℕ) → at < length s → n ≡ (leaf_of (take (length s - at) (drop at s))).span → Step s at n
 step_part s at n h e =
-    let r = leafOf (take (length s - at) (drop at s)) in
+    let r = leaf_of (take (length s - at) (drop at s)) in
     let H = here-part s at r h refl in
     rw e (record {
       some = H.some;
       within = H.within;
-      places-are = λ p. ap (places p) H.items-are ∙ ap (λ (k : ℕ). p ∷ places (p + k) (items plain 0 (drop (at + r.span) s))) (sym H.span-is);
+      places_are = λ p. ap (places p) H.items_are ∙ ap (λ (k : ℕ). p ∷ places (p + k) (items plain 0 (drop (at + r.span) s))) (sym H.span_is);
     })

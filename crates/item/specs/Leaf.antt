@@ -11,9 +11,9 @@ abbrev pub leaf : Item → Leaf
 leaf (coded c n) = record { code = c; span = n; subpart = 0 }
 leaf (stray b n) = record { code = escape b; span = 1; subpart = n }
 
-unfoldable pub leafOf : List ℕ → Leaf
-leafOf [] = record { code = 0; span = 0; subpart = 0 }
-leafOf (b ∷ s) = leaf (item (scan plain (b ∷ s)) b s)
+unfoldable pub leaf_of : List ℕ → Leaf
+leaf_of [] = record { code = 0; span = 0; subpart = 0 }
+leaf_of (b ∷ s) = leaf (item (scan plain (b ∷ s)) b s)
 
 -- what is found at the front, as an item: a partial sequence, too, is bad bytes from b on
 abbrev pub item_of : Front → ℕ → Item

@@ -1,7 +1,9 @@
 // The item at the front of a slice, by the reading with LAST alone: what every walk over items takes for a step.
+#![tactic(auto)]
+
 ghost use Rattle.std.specs.Prelude.{◌≡◌};
 ghost use Rattle.form.specs.Text.{escape};
-ghost use Rattle.item.specs.Leaf.{leaf, leafOf, item_of};
+ghost use Rattle.item.specs.Leaf.{leaf, leaf_of, item_of};
 
 use forms::Form;
 use front::Front;
@@ -45,7 +47,7 @@ fn of_front(f: Front, b: u8) -> Leaf
 
 // A sequence in a straight line, and else what a walk finds. Of no bytes: no item, all zero.
 pub fn item_of(s: &[u8]) -> Leaf
-    ensures { result ≡ leafOf s.now }
+    ensures { result ≡ leaf_of s.now }
 {
     if s.len() == 0 {
         return Leaf {
@@ -68,7 +70,7 @@ pub fn item_of(s: &[u8]) -> Leaf
 
 // How many bytes that item takes, which a straight line tells: those of a well-formed sequence, or else one.
 pub fn span_of(s: &[u8]) -> usize
-    ensures { result ≡ (leafOf s.now).span }
+    ensures { result ≡ (leaf_of s.now).span }
 {
     if s.len() == 0 {
         return 0;

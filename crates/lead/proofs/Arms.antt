@@ -11,14 +11,14 @@ use Rattle.form.proofs.Between.{between, between-at}
 use Rattle.forms.specs.declared.Form.{Form}
 use Rattle.lead.specs.declared.Lead.{Lead}
 use Rattle.forms.specs.Forms.{rows_of}
-use Rattle.lead.specs.Lead.{leadOf}
-use Rattle.forms.proofs.Forms.{every-form}
+use Rattle.lead.specs.Lead.{lead_of}
+use Rattle.forms.proofs.Forms.{every_form}
 
-abbrev pub same-lead : Lead → Lead → Bool
-same-lead a b = eqb a.len b.len && (eqb a.lo b.lo && eqb a.hi b.hi)
+abbrev pub same_lead : Lead → Lead → Bool
+same_lead a b = eqb a.len b.len && (eqb a.lo b.lo && eqb a.hi b.hi)
 
-pub same-lead-path : (a b : Lead) → T (same-lead a b) → a ≡ b
-same-lead-path a b t =
+pub same_lead_path : (a b : Lead) → T (same_lead a b) → a ≡ b
+same_lead_path a b t =
     let (l, u) = both (eqb a.len b.len) (eqb a.lo b.lo && eqb a.hi b.hi) t in
     let (p, q) = both (eqb a.lo b.lo) (eqb a.hi b.hi) u in
     let x = eqb→eq a.len b.len l in
@@ -27,16 +27,16 @@ same-lead-path a b t =
     λ i. record { len = x i; lo = y i; hi = z i }
 
 -- the byte leads as l says
-abbrev pub leads-as : Lead → Table.Form → ℕ → Bool
-leads-as l F b = same-lead l (leadOf (after b F))
+abbrev pub leads_as : Lead → Table.Form → ℕ → Bool
+leads_as l F b = same_lead l (lead_of (after b F))
 
-leads-as-path : (l : Lead) (F : Table.Form) (b : ℕ) → T (leads-as l F b) → l ≡ leadOf (after b F)
-leads-as-path l F b t = same-lead-path l (leadOf (after b F)) t
+leads_as_path : (l : Lead) (F : Table.Form) (b : ℕ) → T (leads_as l F b) → l ≡ lead_of (after b F)
+leads_as_path l F b t = same_lead_path l (lead_of (after b F)) t
 
 -- by the rows F each of the n bytes from lo on leads so; and by those of every form
-pub arm : (F : Table.Form) (lo n : ℕ) (l : Lead) → T (between lo n (leads-as l F)) → (b : ℕ) → lo ≤ b → b < lo + n → l ≡ leadOf (after b F)
-arm F lo n l t b h g = leads-as-path l F b (between-at lo n (leads-as l F) t b h g)
+pub arm : (F : Table.Form) (lo n : ℕ) (l : Lead) → T (between lo n (leads_as l F)) → (b : ℕ) → lo ≤ b → b < lo + n → l ≡ lead_of (after b F)
+arm F lo n l t b h g = leads_as_path l F b (between-at lo n (leads_as l F) t b h g)
 
-pub arms : (lo n : ℕ) (l : Lead) → T (between lo n (leads-as l plain)) → T (between lo n (leads-as l surro)) → T (between lo n (leads-as l cesu)) → (f : Form) (b : ℕ) → lo ≤ b → b < lo + n
-    → l ≡ leadOf (after b (rows_of f))
-arms lo n l t u v f b h g = leads-as-path l (rows_of f) b (every-form (leads-as l) lo n t u v f b h g)
+pub arms : (lo n : ℕ) (l : Lead) → T (between lo n (leads_as l plain)) → T (between lo n (leads_as l surro)) → T (between lo n (leads_as l cesu)) → (f : Form) (b : ℕ) → lo ≤ b → b < lo + n
+    → l ≡ lead_of (after b (rows_of f))
+arms lo n l t u v f b h g = leads_as_path l (rows_of f) b (every_form (leads_as l) lo n t u v f b h g)

@@ -6,7 +6,7 @@ use Rattle.lead.specs.declared.Lead.{Lead}
 
 -- by the rows that are left after a byte: the length of the sequences of the first of them, and the range of their second byte; zeros where there is
 -- none. Only after ED in CESU-8 are two left
-abbrev pub leadOf : Table.Form → Lead
-leadOf [] = record { len = 0; lo = 0; hi = 0 }
-leadOf (row c [] ∷ F) = record { len = 1; lo = 0; hi = 0 }
-leadOf (row c (lo to hi ∷ rs) ∷ F) = record { len = suc (suc (length rs)); lo = lo; hi = hi }
+abbrev pub lead_of : Table.Form → Lead
+lead_of [] = record { len = 0; lo = 0; hi = 0 }
+lead_of (row c [] ∷ F) = record { len = 1; lo = 0; hi = 0 }
+lead_of (row c (lo to hi ∷ rs) ∷ F) = record { len = suc (suc (length rs)); lo = lo; hi = hi }

@@ -1,9 +1,11 @@
 // What the first byte of a sequence says.
+#![tactic(auto)]
+
 ghost use Rattle.std.specs.Prelude.{◌≡◌};
-ghost use Rattle.form.specs.Table.{long-rows};
+ghost use Rattle.form.specs.Table.{long_rows};
 ghost use Rattle.form.specs.Scan.{after};
 ghost use Rattle.forms.specs.Forms.{rows_of};
-ghost use Rattle.lead.specs.Lead.{leadOf};
+ghost use Rattle.lead.specs.Lead.{lead_of};
 
 use forms::Form;
 
@@ -24,7 +26,7 @@ fn leads(len: usize, lo: u8, hi: u8) -> Lead
 
 // What a first byte says of the sequences of four bytes.
 fn lead_long(b: u8) -> Lead
-    ensures { result ≡ leadOf (after b long-rows) }
+    ensures { result ≡ lead_of (after b long_rows) }
 {
     match b {
         0x00..=0xEF => leads(0, 0, 0),
@@ -37,7 +39,7 @@ fn lead_long(b: u8) -> Lead
 
 // What a first byte says.
 pub fn lead_of(form: Form, b: u8) -> Lead
-    ensures { result ≡ leadOf (after b (rows_of form)) }
+    ensures { result ≡ lead_of (after b (rows_of form)) }
 {
     match b {
         0x00..=0x7F => leads(1, 0, 0),

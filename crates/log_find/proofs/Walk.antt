@@ -21,7 +21,7 @@ module _ (s : List ℕ) (from n at left : ℕ) (W : Walking s from n at left) wh
   pub walking_on : (k : ℕ) → Step s at k → 0 < left → Walking s from n (at + k) (left - 1)
   walking_on k h g =
       let z : left ≡ suc (left - 1) = omega arith in
-      record { rest = W.rest ∙ ap (get_elem? (starts s at)) z ∙ ap (λ (l : List ℕ). get_elem? l (suc (left - 1))) (h.places-are at) }
+      record { rest = W.rest ∙ ap (get_elem? (starts s at)) z ∙ ap (λ (l : List ℕ). get_elem? l (suc (left - 1))) (h.places_are at) }
 
   pub walking_here : at < length s → left ≡ 0 → ◌≡◌ {A = Place} (record { number = 0; place = at }) (place_of (get_elem? (starts s from) n))
   walking_here h e = sym (ap place_of (W.rest ∙ ap (get_elem? (starts s at)) e ∙ ap (λ (l : List ℕ). get_elem? l 0) (starts-some s at h)))

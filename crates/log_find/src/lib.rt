@@ -1,4 +1,6 @@
 // The place of a code in a log, by an index beside it.
+#![tactic(auto)]
+
 ghost use Rattle.std.specs.Prelude.{◌≡◌};
 ghost use Rattle.std.proofs.Math.ListN.{get_elem?};
 ghost use Rattle.log_index.specs.Index.{starts, finding, records};

@@ -10,8 +10,8 @@ use Rattle.form.specs.Text.{Item, span, code, items, places, read}
 use Rattle.form.proofs.Utf8.{plain-regular}
 use Rattle.bounds.specs.Cover.{place}
 use Rattle.bounds.proofs.Bounds.{items-from}
-use Rattle.log_index.specs.Index.{starts, log-index, reached, finding}
-use Rattle.log_index.proofs.Lists.{elem-drop, elem-none, every-at}
+use Rattle.log_index.specs.Index.{starts, log_index, reached, finding}
+use Rattle.log_index.proofs.Lists.{elem_drop, elem_none, every-at}
 use Rattle.log_index.proofs.Starts.{starts_from}
 
 -- the place of number m is that of its items
@@ -22,14 +22,14 @@ start-place (i ∷ l) q (suc m) p e = sym (let z : q + span i + place m l ≡ q 
 
 -- some items on from the place of code m
 jumped : (s : List ℕ) (m n : ℕ) (a : Option ℕ) → get_elem? (starts s 0) m ≡ a → reached s a n ≡ get_elem? (starts s 0) (m + n)
-jumped s m n none e = sym ((elem-none (starts s 0) (m + n)).1 (omega (arith, (elem-none (starts s 0) m).0 e)))
+jumped s m n none e = sym ((elem_none (starts s 0) (m + n)).1 (omega (arith, (elem_none (starts s 0) m).0 e)))
 jumped s m n (some p) e =
     let q : 0 + place m (items plain 0 s) ≡ p = start-place (items plain 0 s) 0 m p e in
-    ap (λ (l : List ℕ). get_elem? l n) (sym (starts_from s 0 m ∙ ap (starts s) q)) ∙ elem-drop (starts s 0) m n
+    ap (λ (l : List ℕ). get_elem? l n) (sym (starts_from s 0 m ∙ ap (starts s) q)) ∙ elem_drop (starts s 0) m n
 
-pub found-true : (s : List ℕ) (k : ℕ) → finding s (log-index s) k ≡ get_elem? (starts s 0) k
-unfolding finding log-index
-found-true s k =
+pub found_true : (s : List ℕ) (k : ℕ) → finding s (log_index s) k ≡ get_elem? (starts s 0) k
+unfolding finding log_index
+found_true s k =
     let whole : 0 + k / 64 * 64 + k % 64 ≡ k = omega arith in
     ap (λ (a : Option ℕ). reached s a (k % 64)) (every-at (starts s 0) 0 (k / 64)) ∙ jumped s (0 + k / 64 * 64) (k % 64) (get_elem? (starts s 0) (0 + k / 64 * 64)) refl ∙ ap (get_elem? (starts s 0)) whole
 

@@ -13,7 +13,7 @@ use Rattle.form.specs.Text.{items}
 use Rattle.form.proofs.Utf8.{plain-regular, plain-scans}
 use Rattle.bounds.specs.Cover.{place}
 use Rattle.bounds.proofs.Bounds.{items-from, items-few, place-stays}
-use Rattle.log_index.specs.Index.{log-index, onward}
+use Rattle.log_index.specs.Index.{log_index, onward}
 use Rattle.log_index.specs.Update.{standing, resumed, updated}
 use Rattle.log_index.proofs.Starts.{jump, onward-some, onward-none, index-from, ceil}
 use Rattle.log_index.proofs.Standing.{stands, falls}
@@ -58,8 +58,8 @@ stand-from (suc j) s t p h = go (ltb (p + jump s p + 3) (length s)) refl (stand-
         by false x = rw (onward-none s q (ltb-false q (length s) x)) refl
 
 -- s is the old log, t what was appended, j the old records, perhaps fewer than s has
-pub updated-fresh : (s t : List ℕ) (j : ℕ) → updated (s ++ t) (length s) (take j (log-index s)) ≡ log-index (s ++ t)
-unfolding updated log-index
+pub updated-fresh : (s t : List ℕ) (j : ℕ) → updated (s ++ t) (length s) (take j (log_index s)) ≡ log_index (s ++ t)
+unfolding updated log_index
 updated-fresh s t zero = refl
 updated-fresh s t (suc j) = go (ltb 3 (length s)) refl
   where
@@ -73,18 +73,18 @@ updated-fresh s t (suc j) = go (ltb 3 (length s)) refl
 
 -- the records from number i on are enough, if the first of them stands
 pub updated-tail : (s t : List ℕ) (i : ℕ) → place (i * 64) (items plain 0 s) + 3 < length s
-    → updated (s ++ t) (length s) (drop i (log-index s)) ≡ drop i (log-index (s ++ t))
+    → updated (s ++ t) (length s) (drop i (log_index s)) ≡ drop i (log_index (s ++ t))
 unfolding updated
 updated-tail s t i h =
     let p = place (i * 64) (items plain 0 s) in
     let n = length (onward s p) in
-    let a : drop i (log-index s) ≡ take (suc n) (onward s p) = index-from s i ∙ sym (take_all (suc n) (onward s p) (omega arith)) in
+    let a : drop i (log_index s) ≡ take (suc n) (onward s p) = index-from s i ∙ sym (take_all (suc n) (onward s p) (omega arith)) in
     let b : place (i * 64) (items plain 0 (s ++ t)) ≡ p = place-stays plain 4 plain-scans plain-regular.is_open (omega arith) (i * 64) s t (omega arith) in
     ap (λ (rs : List ℕ). resumed (s ++ t) (standing (length s) rs)) a ∙ stand-from n s t p h ∙ sym (index-from (s ++ t) i ∙ ap (onward (s ++ t)) b)
 
 -- as does any but the last
-pub but-last-stands : (s : List ℕ) (i : ℕ) → suc i < length (log-index s) → place (i * 64) (items plain 0 s) + 3 < length s
-but-last-stands s i h =
+pub but_last_stands : (s : List ℕ) (i : ℕ) → suc i < length (log_index s) → place (i * 64) (items plain 0 s) + 3 < length s
+but_last_stands s i h =
     let p = place (i * 64) (items plain 0 s) in
     let e = ap length (items-from plain plain-regular.is_open (i * 64) s) in
     omega (arith, e, ceil s, length-drop (i * 64) (items plain 0 s), items-few plain 0 (drop p s), length-drop p s)

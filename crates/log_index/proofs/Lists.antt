@@ -10,23 +10,23 @@ use lib.Seq.{drop-nil}
 use Rattle.form.specs.Text.{All}
 use Rattle.log_index.specs.Index.{every}
 
-pub elem-drop : {A : Type 0} (l : List A) (m j : ℕ) → get_elem? (drop m l) j ≡ get_elem? l (m + j)
-elem-drop l zero j = ap (get_elem? l) (let z : j ≡ 0 + j = omega arith in z)
-elem-drop [] (suc m) j = refl
-elem-drop (p ∷ l) (suc m) j = elem-drop l m j ∙ ap (get_elem? (p ∷ l)) (let z : suc (m + j) ≡ suc m + j = omega arith in z)
+pub elem_drop : {A : Type 0} (l : List A) (m j : ℕ) → get_elem? (drop m l) j ≡ get_elem? l (m + j)
+elem_drop l zero j = ap (get_elem? l) (let z : j ≡ 0 + j = omega arith in z)
+elem_drop [] (suc m) j = refl
+elem_drop (p ∷ l) (suc m) j = elem_drop l m j ∙ ap (get_elem? (p ∷ l)) (let z : suc (m + j) ≡ suc m + j = omega arith in z)
 
 -- the first of what is left
-pub elem-first : {A : Type 0} (l : List A) (m : ℕ) (x : A) (t : List A) → drop m l ≡ x ∷ t → get_elem? l m ≡ some x
-elem-first {A = A} l m x t e = ap (get_elem? l) (let z : m ≡ m + 0 = omega arith in z) ∙ sym (elem-drop l m 0) ∙ ap (λ (k : List A). get_elem? k 0) e
+pub elem_first : {A : Type 0} (l : List A) (m : ℕ) (x : A) (t : List A) → drop m l ≡ x ∷ t → get_elem? l m ≡ some x
+elem_first {A = A} l m x t e = ap (get_elem? l) (let z : m ≡ m + 0 = omega arith in z) ∙ sym (elem_drop l m 0) ∙ ap (λ (k : List A). get_elem? k 0) e
 
 some-none : {A : Type 0} (p : ℕ) → ◌≡◌ {A = Option ℕ} (some p) none → A
 some-none p e = let z : ◌≡◌ {A = ℕ} 0 1 = cc in absurd (omega arith)
 
 -- there is none exactly from the length on
-pub elem-none : (l : List ℕ) (k : ℕ) → (get_elem? l k ≡ none) ↔ (length l ≤ k)
-elem-none [] k = (λ e. omega arith, λ h. refl)
-elem-none (p ∷ l) zero = (some-none p, λ h. absurd (omega arith))
-elem-none (p ∷ l) (suc k) = let (a, b) = elem-none l k in (λ e. omega (arith, a e), λ h. b (omega arith))
+pub elem_none : (l : List ℕ) (k : ℕ) → (get_elem? l k ≡ none) ↔ (length l ≤ k)
+elem_none [] k = (λ e. omega arith, λ h. refl)
+elem_none (p ∷ l) zero = (some-none p, λ h. absurd (omega arith))
+elem_none (p ∷ l) (suc k) = let (a, b) = elem_none l k in (λ e. omega (arith, a e), λ h. b (omega arith))
 
 -- ---- every 64th
 
@@ -36,10 +36,10 @@ every-at (p ∷ l) zero zero = refl
 every-at (p ∷ l) zero (suc j) = every-at l 63 j ∙ ap (get_elem? (p ∷ l)) (let z : suc (63 + j * 64) ≡ 0 + suc j * 64 = omega arith in z)
 every-at (p ∷ l) (suc k) j = every-at l k j ∙ ap (get_elem? (p ∷ l)) (let z : suc (k + j * 64) ≡ suc k + j * 64 = omega arith in z)
 
-pub every-skip : (k : ℕ) (l : List ℕ) → every k l ≡ every 0 (drop k l)
-every-skip zero l = refl
-every-skip (suc k) [] = refl
-every-skip (suc k) (p ∷ l) = every-skip k l
+pub every_skip : (k : ℕ) (l : List ℕ) → every k l ≡ every 0 (drop k l)
+every_skip zero l = refl
+every_skip (suc k) [] = refl
+every_skip (suc k) (p ∷ l) = every_skip k l
 
 pub every_drop : (l : List ℕ) (k j : ℕ) → drop j (every k l) ≡ every 0 (drop (k + j * 64) l)
 every_drop [] k j = drop-nil j ∙ sym (ap (every 0) (drop-nil (k + j * 64)))
@@ -57,7 +57,7 @@ every-few k [] = omega arith
 every-few zero (p ∷ l) = omega (arith, every-length 63 l (omega arith))
 every-few (suc k) (p ∷ l) = omega (arith, every-few k l)
 
-pub every-all : (P : ℕ → Type 0) (k : ℕ) (l : List ℕ) → All P l → All P (every k l)
-every-all P k [] h = tt
-every-all P zero (p ∷ l) h = (h.0, every-all P 63 l h.1)
-every-all P (suc k) (p ∷ l) h = every-all P k l h.1
+pub every_all : (P : ℕ → Type 0) (k : ℕ) (l : List ℕ) → All P l → All P (every k l)
+every_all P k [] h = tt
+every_all P zero (p ∷ l) h = (h.0, every_all P 63 l h.1)
+every_all P (suc k) (p ∷ l) h = every_all P k l h.1

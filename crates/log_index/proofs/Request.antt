@@ -21,16 +21,16 @@ use Rattle.bounds.proofs.Apart.{plain-apart}
 use Rattle.bounds.proofs.Bounds.{places-from}
 use Rattle.bounds.proofs.Covers.{covering-item, past_end, some-covers}
 use Rattle.bounds.proofs.Window.{alike}
-use Rattle.log_index.specs.Index.{starts, log-index, reached, finding}
+use Rattle.log_index.specs.Index.{starts, log_index, reached, finding}
 use Rattle.log_index.specs.Request.{codes, CoversIn, Request}
-use Rattle.log_index.proofs.Lists.{elem-first, elem-none, every-at}
+use Rattle.log_index.proofs.Lists.{elem_first, elem_none, every-at}
 use Rattle.log_index.proofs.Starts.{starts_none, starts-count, ceil}
 use Rattle.log_index.proofs.Finding.{map-drop, start-reads}
 use Rattle.log_index.proofs.Standing.{stand-first}
 use Rattle.log_index.proofs.Bytes.{built-all, built-none, found-built, updating-outside, grown}
 
-recorded : (s : List ℕ) (j : ℕ) → get_elem? (log-index s) j ≡ get_elem? (starts s 0) (j * 64)
-unfolding log-index
+recorded : (s : List ℕ) (j : ℕ) → get_elem? (log_index s) j ≡ get_elem? (starts s 0) (j * 64)
+unfolding log_index
 recorded s j = every-at (starts s 0) 0 j ∙ ap (get_elem? (starts s 0)) (let z : 0 + j * 64 ≡ j * 64 = omega arith in z)
 
 -- the reader's codes are those of the items
@@ -40,15 +40,15 @@ codes-are s = ap (λ (R : Reading). R.codes) (reads_all Utf8 (length s) s (omega
 codes-count : (s : List ℕ) → length (codes s) ≡ length (items plain 0 s)
 codes-count s = ap length (codes-are s) ∙ length-map (items plain 0 s) code
 
-how-many : (s : List ℕ) → length (log-index s) ≡ (length (codes s) + 63) / 64
-how-many s = ceil s ∙ ap (λ (n : ℕ). (n + 63) / 64) (sym (codes-count s))
+how_many : (s : List ℕ) → length (log_index s) ≡ (length (codes s) + 63) / 64
+how_many s = ceil s ∙ ap (λ (n : ℕ). (n + 63) / 64) (sym (codes-count s))
 
 reads_on : (s : List ℕ) (k p : ℕ) → get_elem? (starts s 0) k ≡ some p → codes (drop p s) ≡ drop k (codes s)
 reads_on s k p e = codes-are (drop p s) ∙ start-reads s k p e ∙ ap (drop k) (sym (codes-are s))
 
-past-codes : (s : List ℕ) (k : ℕ) → (get_elem? (starts s 0) k ≡ none) ↔ (length (codes s) ≤ k)
-past-codes s k =
-    let (a, b) = elem-none (starts s 0) k in
+past_codes : (s : List ℕ) (k : ℕ) → (get_elem? (starts s 0) k ≡ none) ↔ (length (codes s) ≤ k)
+past_codes s k =
+    let (a, b) = elem_none (starts s 0) k in
     (λ e. omega (arith, a e, starts-count s, codes-count s), λ h. b (omega (arith, starts-count s, codes-count s)))
 
 past_bytes : (s : List ℕ) (p : ℕ) → (covering 0 (items plain 0 s) p ≡ Cover.none) ↔ (length s ≤ p)
@@ -68,7 +68,7 @@ walked s rs k p e = ap (λ (a : Option ℕ). reached s a (k % 64)) e
 
 missing : (s rs : List ℕ) (k : ℕ) → length rs ≤ k / 64 → finding s rs k ≡ none
 unfolding finding
-missing s rs k h = ap (λ (a : Option ℕ). reached s a (k % 64)) ((elem-none rs (k / 64)).1 h)
+missing s rs k h = ap (λ (a : Option ℕ). reached s a (k % 64)) ((elem_none rs (k / 64)).1 h)
 
 covered : (s : List ℕ) (p q : ℕ) (i : Item) → covering 0 (items plain 0 s) p ≡ covers q i → CoversIn s p q i
 covered s p q i e =
@@ -76,9 +76,9 @@ covered s p q i e =
     let (j, d, f, g, h) = covering-item l 0 p q i (omega arith) e in
     record {
       number = j;
-      is-item = elem-first l j i (drop (suc j) l) d;
-      is-place = elem-first (starts s 0) j q (places (q + span i) (drop (suc j) l)) (places-from j 0 l ∙ rw (d, ← f) refl);
-      is_code = elem-first (codes s) j (code i) (map code (drop (suc j) l)) (ap (drop j) (codes-are s) ∙ sym (map-drop j l) ∙ ap (map code) d);
+      is_item = elem_first l j i (drop (suc j) l) d;
+      is_place = elem_first (starts s 0) j q (places (q + span i) (drop (suc j) l)) (places-from j 0 l ∙ rw (d, ← f) refl);
+      is_code = elem_first (codes s) j (code i) (map code (drop (suc j) l)) (ap (drop j) (codes-are s) ∙ sym (map-drop j l) ∙ ap (map code) d);
       begins = g;
       ends = h;
     }
@@ -87,11 +87,11 @@ pub request : Request
 request =
     record {
       recorded = recorded;
-      how-many = how-many;
+      how_many = how_many;
       built = built-all;
       found = found-built;
       reads_on = reads_on;
-      past-codes = past-codes;
+      past_codes = past_codes;
       past_bytes = past_bytes;
       walked = walked;
       missing = missing;
@@ -100,6 +100,6 @@ request =
       alone = alike plain 3 plain-apart;
       covered = covered;
       stand = stand-first;
-      refused-first = updating-outside;
+      refused_first = updating-outside;
       fresh = grown;
     }

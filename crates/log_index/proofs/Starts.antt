@@ -10,8 +10,8 @@ use Rattle.form.specs.Text.{items, places, All}
 use Rattle.form.proofs.Utf8.{plain-regular}
 use Rattle.bounds.specs.Cover.{place}
 use Rattle.bounds.proofs.Bounds.{items-from, places-from, places-inside, places-length, items-few}
-use Rattle.log_index.specs.Index.{starts, every, onward, log-index}
-use Rattle.log_index.proofs.Lists.{every-skip, every_drop, every-length, every-all}
+use Rattle.log_index.specs.Index.{starts, every, onward, log_index}
+use Rattle.log_index.proofs.Lists.{every_skip, every_drop, every-length, every_all}
 
 pub starts_none : (s : List ℕ) (p : ℕ) → length s ≤ p → starts s p ≡ []
 starts_none s p h = ap (λ (u : List ℕ). places p (items plain 0 u)) (drop_of_length-le s {i = p} h)
@@ -49,24 +49,24 @@ onward-none s p h = ap (every 0) (starts_none s p h)
 pub onward-some : (s : List ℕ) (p : ℕ) → p < length s → onward s p ≡ p ∷ onward s (p + jump s p)
 onward-some s p h =
     ap (every 0) (starts-some s p h)
-    ∙ ap (λ (l : List ℕ). p ∷ l) (every-skip 63 (drop 1 (starts s p)) ∙ ap (every 0) (drop-drop 63 1 (starts s p) ∙ starts_from s p 64))
+    ∙ ap (λ (l : List ℕ). p ∷ l) (every_skip 63 (drop 1 (starts s p)) ∙ ap (every 0) (drop-drop 63 1 (starts s p) ∙ starts_from s p 64))
 
 -- the records from number i on
-pub index-from : (s : List ℕ) (i : ℕ) → drop i (log-index s) ≡ onward s (place (i * 64) (items plain 0 s))
-unfolding log-index
+pub index-from : (s : List ℕ) (i : ℕ) → drop i (log_index s) ≡ onward s (place (i * 64) (items plain 0 s))
+unfolding log_index
 index-from s i =
     let a : 0 + i * 64 ≡ i * 64 = omega arith in
     let b : 0 + place (i * 64) (items plain 0 s) ≡ place (i * 64) (items plain 0 s) = omega arith in
     every_drop (starts s 0) 0 i ∙ ap (λ (n : ℕ). every 0 (drop n (starts s 0))) a ∙ ap (every 0) (starts_from s 0 (i * 64)) ∙ ap (onward s) b
 
 -- one for every 64 codes, begun
-pub ceil : (s : List ℕ) → length (log-index s) ≡ (length (items plain 0 s) + 63) / 64
-unfolding log-index
+pub ceil : (s : List ℕ) → length (log_index s) ≡ (length (items plain 0 s) + 63) / 64
+unfolding log_index
 ceil s = every-length 0 (starts s 0) (omega arith) ∙ ap (λ (n : ℕ). (n + 63) / 64) (starts-count s)
 
 -- every place recorded lies inside
-pub log-index-inside : (s : List ℕ) → All (λ p. p < length s) (log-index s)
-unfolding log-index
-log-index-inside s =
+pub log_index-inside : (s : List ℕ) → All (λ p. p < length s) (log_index s)
+unfolding log_index
+log_index-inside s =
     let z : 0 + length s ≡ length s = omega arith in
-    every-all (λ p. p < length s) 0 (starts s 0) (rw z at (places-inside plain plain-regular.is_open s 0 0))
+    every_all (λ p. p < length s) 0 (starts s 0) (rw z at (places-inside plain plain-regular.is_open s 0 0))

@@ -1,7 +1,7 @@
 -- The index of a log after an append, and what building and updating give (C-17). Assumes nothing.
 use Rattle.std.specs.Prelude.{cond, List, [], ◌∷◌, ℕ, ◌+◌, ◌*◌, leb, ltb, length}
-use Rattle.numbers.specs.Number.{laid_in, values-in}
-use Rattle.log_index.specs.Index.{onward, log-index}
+use Rattle.numbers.specs.Number.{laid_in, values_in}
+use Rattle.log_index.specs.Index.{onward, log_index}
 
 -- the records before the first whose place + 3 reaches the old length
 abbrev pub standing : ℕ → List ℕ → List ℕ
@@ -33,8 +33,8 @@ unfoldable pub fitting : ℕ → List ℕ → Indexing
 fitting room rs = cond (leb (length rs * 8) room) (record { number = 0; records = length rs; bytes = laid_in 8 rs }) (refused 1)
 
 unfoldable pub building : List ℕ → ℕ → Indexing
-building log room = fitting room (log-index log)
+building log room = fitting room (log_index log)
 
 -- refused in this order: an old length past the log's (15), more old records than there is room for (15), no room for the new ones (1)
 unfoldable pub updating : List ℕ → ℕ → List ℕ → ℕ → Indexing
-updating log n w old = cond (ltb (length log) n) (refused 15) (cond (ltb (length w) (old * 8)) (refused 15) (fitting (length w) (updated log n (values-in 8 old w))))
+updating log n w old = cond (ltb (length log) n) (refused 15) (cond (ltb (length w) (old * 8)) (refused 15) (fitting (length w) (updated log n (values_in 8 old w))))

@@ -11,7 +11,7 @@ use Rattle.item.proofs.Here.{Step}
 use Rattle.log_index.specs.Index.{starts, every}
 use Rattle.log_index.proofs.Lists.{every-few}
 use Rattle.log_index.proofs.Starts.{starts_none, starts-few}
-use Rattle.log_records.proofs.Walk.{Reached, reached-start, reached-pass, reached-record, reached-end}
+use Rattle.log_records.proofs.Walk.{Reached, reached-start, reached-pass, reached-record, reached_end}
 
 pub record Counts (s : List ℕ) (from k at left n : ℕ) : Type 0 where
   pub done : List ℕ
@@ -30,7 +30,7 @@ module _ (s : List ℕ) (from k at left n : ℕ) (K : Counts s from k at left n)
       record { done = K.done ++ (at ∷ []); so_far = length-append K.done (at ∷ []) ∙ omega (arith, K.so_far); reached = reached-record s from k K.done at left i K.reached h g }
 
   pub counts_end : length s ≤ at → n ≡ length (every k (starts s from))
-  counts_end h = sym (ap length (reached-end s from k K.done at left K.reached h) ∙ K.so_far)
+  counts_end h = sym (ap length (reached_end s from k K.done at left K.reached h) ∙ K.so_far)
 
 -- ---- whether they are few
 

@@ -12,7 +12,7 @@ use Rattle.numbers.proofs.Laws.{low-length, laid-length, laid-append}
 use Rattle.numbers.specs.Filled.{Filled}
 use Rattle.numbers.proofs.Filled.{filled_none, filled-same, filled_next}
 use Rattle.log_index.specs.Index.{starts, every}
-use Rattle.log_records.proofs.Walk.{Reached, reached-start, reached-pass, reached-record, reached-end}
+use Rattle.log_records.proofs.Walk.{Reached, reached-start, reached-pass, reached-record, reached_end}
 
 pub record Laid (s : List ℕ) (from k : ℕ) (out₀ out : List ℕ) (at left n : ℕ) : Type 0 where
   pub done : List ℕ
@@ -56,7 +56,7 @@ module _ (s : List ℕ) (from k : ℕ) (out₀ out : List ℕ) (at left n : ℕ)
 
   pub laid_end : length s ≤ at → Lays
   laid_end h =
-      laid-all (ap (take (length out₀ / 8)) (reached-end s from k K.done at left K.reached h) ∙ take_all (length out₀ / 8) K.done (omega (arith, K.filled.fits, width, K.so_far)))
+      laid-all (ap (take (length out₀ / 8)) (reached_end s from k K.done at left K.reached h) ∙ take_all (length out₀ / 8) K.done (omega (arith, K.filled.fits, width, K.so_far)))
 
   pub laid-full : length out / 8 ≤ n → Lays
   laid-full h =

@@ -18,7 +18,7 @@ reached-start s from k = record { few = omega arith; rest = refl }
 
 module _ (s : List ℕ) (from k : ℕ) (done : List ℕ) (at left : ℕ) (i : ℕ) (R : Reached s from k done at left) (h : Step s at i) where
   here : (m : ℕ) → left ≡ m → every k (starts s from) ≡ done ++ every m (at ∷ starts s (at + i))
-  here m z = R.rest ∙ ap (λ (l : List ℕ). done ++ every left l) (h.places-are at) ∙ ap (λ (j : ℕ). done ++ every j (at ∷ starts s (at + i))) z
+  here m z = R.rest ∙ ap (λ (l : List ℕ). done ++ every left l) (h.places_are at) ∙ ap (λ (j : ℕ). done ++ every j (at ∷ starts s (at + i))) z
 
   pub reached-pass : 0 < left → Reached s from k done (at + i) (left - 1)
   reached-pass g = record { few = omega (arith, R.few); rest = here (suc (left - 1)) (omega arith) }
@@ -30,5 +30,5 @@ module _ (s : List ℕ) (from k : ℕ) (done : List ℕ) (at left : ℕ) (i : �
         rest = here 0 (omega arith) ∙ sym (append_assoc done (at ∷ []) (every 63 (starts s (at + i))));
       }
 
-pub reached-end : (s : List ℕ) (from k : ℕ) (done : List ℕ) (at left : ℕ) → Reached s from k done at left → length s ≤ at → every k (starts s from) ≡ done
-reached-end s from k done at left R h = R.rest ∙ ap (λ (l : List ℕ). done ++ every left l) (starts_none s at h) ∙ append-nil done
+pub reached_end : (s : List ℕ) (from k : ℕ) (done : List ℕ) (at left : ℕ) → Reached s from k done at left → length s ≤ at → every k (starts s from) ≡ done
+reached_end s from k done at left R h = R.rest ∙ ap (λ (l : List ℕ). done ++ every left l) (starts_none s at h) ∙ append-nil done

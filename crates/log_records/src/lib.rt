@@ -1,4 +1,6 @@
 // The records of a log from a place on: how many, and their bytes.
+#![tactic(auto)]
+
 ghost use Rattle.std.specs.Prelude.{◌≡◌, ◌/◌, leb, length, take};
 ghost use Rattle.numbers.specs.Number.{laid_in, over};
 ghost use Rattle.log_index.specs.Index.{starts, every};

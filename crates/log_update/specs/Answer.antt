@@ -2,5 +2,5 @@
 use Rattle.log_index.specs.Update.{Indexing}
 use Rattle.log_update.specs.declared.Indexed.{Indexed}
 
-unfoldable pub indexedOf : Indexing → Indexed
-indexedOf I = record { number = I.number; records = I.records }
+unfoldable pub indexed_of : Indexing → Indexed
+indexed_of I = record { number = I.number; records = I.records }

@@ -6,10 +6,10 @@ abbrev pub last_of : ℕ → List ℕ → ℕ
 last_of d [] = d
 last_of d (p ∷ l) = last_of p l
 
-unfoldable pub resumeOf : List ℕ → Resume
-resumeOf rs = record { count = length rs; place = last_of 0 rs }
+unfoldable pub resume_of : List ℕ → Resume
+resume_of rs = record { count = length rs; place = last_of 0 rs }
 
 -- the last that stands has its record, so the next is for the code 64 further on
-abbrev pub skipOf : ℕ → ℕ
-skipOf zero = 0
-skipOf (suc n) = 64
+abbrev pub skip_of : ℕ → ℕ
+skip_of zero = 0
+skip_of (suc n) = 64

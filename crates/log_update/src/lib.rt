@@ -1,9 +1,11 @@
 // Building the index of a log, and updating it after an append.
+#![tactic(auto)]
+
 ghost use Rattle.std.specs.Prelude.{◌≡◌, ◌+◌, ◌*◌, ◌≤◌, ltb, length};
-ghost use Rattle.numbers.specs.Number.{values-in, over};
+ghost use Rattle.numbers.specs.Number.{values_in, over};
 ghost use Rattle.log_index.specs.Update.{standing, building, updating};
-ghost use Rattle.log_update.specs.Resumption.{resumeOf, skipOf};
-ghost use Rattle.log_update.specs.Answer.{indexedOf};
+ghost use Rattle.log_update.specs.Resumption.{resume_of, skip_of};
+ghost use Rattle.log_update.specs.Answer.{indexed_of};
 
 // The bytes of a record.
 const RECORD: usize = 8;
@@ -34,7 +36,7 @@ fn is_standing(p: usize, n: usize) -> bool
 
 // How many codes have no record before the next that has one.
 fn skip_of(count: usize) -> usize
-    ensures { result ≡ skipOf count }
+    ensures { result ≡ skip_of count }
 {
     if count == 0 { 0 } else { 64 }
 }
@@ -42,7 +44,7 @@ fn skip_of(count: usize) -> usize
 // Of the first `old` records, those that stand.
 fn resume_of(index: &[u8], old: usize, n: usize) -> Resume
     requires { old * 8 ≤ length index.now }
-    ensures { result ≡ resumeOf (standing n (values-in 8 old index.now)) }
+    ensures { result ≡ resume_of (standing n (values_in 8 old index.now)) }
 {
     let mut count: usize = 0;
     let mut place: usize = 0;
@@ -67,7 +69,7 @@ fn resume_of(index: &[u8], old: usize, n: usize) -> Resume
 
 // The index of a log after an append: `was` is the old length, and `old` how many records the index has of the old log.
 pub fn update(log: &[u8], was: usize, index: &mut [u8], old: usize) -> Indexed
-    ensures answer { result ≡ indexedOf (updating log.now was index.old old) }
+    ensures answer { result ≡ indexed_of (updating log.now was index.old old) }
     ensures output { index.new ≡ over (updating log.now was index.old old).bytes index.old }
 {
     let room = index.len() / RECORD;
@@ -101,7 +103,7 @@ pub fn update(log: &[u8], was: usize, index: &mut [u8], old: usize) -> Indexed
 
 // The index of a log.
 pub fn build(log: &[u8], index: &mut [u8]) -> Indexed
-    ensures answer { result ≡ indexedOf (building log.now (length index.old)) }
+    ensures answer { result ≡ indexed_of (building log.now (length index.old)) }
     ensures output { index.new ≡ over (building log.now (length index.old)).bytes index.old }
 {
     update(log, 0, index, 0)

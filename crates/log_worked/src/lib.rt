@@ -1,1 +1,2 @@
 // Statements alone: lines of the request C-17, worked by hand.
+#![tactic(auto)]

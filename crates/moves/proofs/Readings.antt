@@ -13,5 +13,5 @@ pub reading-says : (F : Form) (s : Record) (i : List ℕ) (a : Advanced) (x : Re
 reading-says F s i a x h e = subst (λ (y : Reading). Says F s i y a.next) e h
 
 -- the same answer, and the next state as it was found
-pub with-next : (a : Told) {s t : Record} → s ≡ t → ◌≡◌ {A = Step} (record { answer = a; next = s }) (record { answer = a; next = t })
-with-next a e = ap (λ (x : Record). record { answer = a; next = x }) e
+pub with_next : (a : Told) {s t : Record} → s ≡ t → ◌≡◌ {A = Step} (record { answer = a; next = s }) (record { answer = a; next = t })
+with_next a e = ap (λ (x : Record). record { answer = a; next = x }) e

@@ -4,5 +4,5 @@ use Rattle.advance.specs.Step.{told, Step}
 use Rattle.moves.specs.declared.Moved.{Moved}
 
 -- an answer as document 01 tells it, of a call with n bytes of input, and the next state
-unfoldable pub movedOf : ℕ → Moved → Step
-movedOf n r = record { answer = told n r.answer; next = r.next }
+unfoldable pub moved_of : ℕ → Moved → Step
+moved_of n r = record { answer = told n r.answer; next = r.next }

@@ -1,11 +1,13 @@
 // The steps over records: bytes to 8-bit units, to 16-bit units and to wide codes, and 16-bit units back to bytes.
+#![tactic(auto)]
+
 ghost use Rattle.std.specs.Prelude.{◌≡◌, length};
 ghost use Rattle.form.specs.Table.{plain};
 ghost use Rattle.forms.specs.Forms.{rows_of};
 ghost use Rattle.units.specs.Width.{width8, width16, width32};
-ghost use Rattle.back.specs.Back.{backOf, step_back};
+ghost use Rattle.back.specs.Back.{back_of, step_back};
 ghost use Rattle.advance.specs.Step.{step};
-ghost use Rattle.moves.specs.Moves.{movedOf};
+ghost use Rattle.moves.specs.Moves.{moved_of};
 
 use advance::{Answer, Reading};
 use back::Written;
@@ -28,7 +30,7 @@ fn answered(answer: Answer, next: Record) -> Moved
 
 // Bytes to 8-bit units, at most one sequence a call. A state with a 16-bit unit is refused.
 pub fn move8(s: Record, input: &[u8]) -> Moved
-    ensures { movedOf (length input.now) result ≡ step plain width8 s input.now }
+    ensures { moved_of (length input.now) result ≡ step plain width8 s input.now }
 {
     let a = advance::advance(Form::Plain, s, input);
     let reading = a.reading;
@@ -48,7 +50,7 @@ pub fn move8(s: Record, input: &[u8]) -> Moved
 // Bytes of a form to 16-bit units, at most one sequence a call. A state with pending 8-bit units, or with a held 16-bit unit, is refused. A surrogate,
 // which only SURRO's form has, is no scalar value and has no units: it gives 0.
 pub fn move16(form: Form, s: Record, input: &[u8]) -> Moved
-    ensures { movedOf (length input.now) result ≡ step (rows_of form) width16 s input.now }
+    ensures { moved_of (length input.now) result ≡ step (rows_of form) width16 s input.now }
 {
     let a = advance::advance(form, s, input);
     let reading = a.reading;
@@ -67,7 +69,7 @@ pub fn move16(form: Form, s: Record, input: &[u8]) -> Moved
 
 // Bytes of a form to wide codes, at most one sequence a call. A code is one unit, so that none is ever pending: a state with a unit is refused.
 pub fn move32(form: Form, was: Record, input: &[u8]) -> Moved
-    ensures { movedOf (length input.now) result ≡ step (rows_of form) width32 was input.now }
+    ensures { moved_of (length input.now) result ≡ step (rows_of form) width32 was input.now }
 {
     let a = advance::advance(form, was, input);
     let reading = a.reading;
@@ -82,7 +84,7 @@ pub fn move32(form: Form, was: Record, input: &[u8]) -> Moved
 
 // One 16-bit unit.
 pub fn move_back(s: Record, u: u16) -> Written
-    ensures { backOf result ≡ step_back s u }
+    ensures { back_of result ≡ step_back s u }
 {
     let b = s.bytes;
     match validity::kind_of(Form::Plain, s) {

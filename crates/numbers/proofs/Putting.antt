@@ -15,8 +15,8 @@ pub record Putting (n k : ℕ) (out : List ℕ) (left i : ℕ) : Type 0 where
   pub size : length out ≡ k
   pub rest : take i out ++ low_first (k - i) left ≡ low_first k n
 
-pub putting-none : (n : ℕ) (out : List ℕ) → Putting n (length out) out n 0
-putting-none n out = record { within = omega arith; size = refl; rest = rw (sub-zero (length out)) refl }
+pub putting_none : (n : ℕ) (out : List ℕ) → Putting n (length out) out n 0
+putting_none n out = record { within = omega arith; size = refl; rest = rw (sub-zero (length out)) refl }
 
 module _ (n k : ℕ) (out : List ℕ) (left i : ℕ) (c : Putting n k out left i) where
   pub putting-next : i < k → Putting n k (set out i (left % 256)) (left / 256) (i + 1)

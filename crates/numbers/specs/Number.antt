@@ -17,9 +17,9 @@ laid_in k [] = []
 laid_in k (x ∷ l) = low_first k x ++ laid_in k l
 
 -- the first n numbers of bytes that have k for each
-abbrev pub values-in : ℕ → ℕ → List ℕ → List ℕ
-values-in k zero w = []
-values-in k (suc n) w = value (take k w) ∷ values-in k n (drop k w)
+abbrev pub values_in : ℕ → ℕ → List ℕ → List ℕ
+values_in k zero w = []
+values_in k (suc n) w = value (take k w) ∷ values_in k n (drop k w)
 
 -- a buffer with these bytes at its front
 abbrev pub over : List ℕ → List ℕ → List ℕ

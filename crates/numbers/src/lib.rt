@@ -1,4 +1,6 @@
 // Numbers as bytes, low byte first.
+#![tactic(auto)]
+
 ghost use Rattle.std.specs.Prelude.{◌≡◌, length, take};
 ghost use Rattle.numbers.specs.Number.{low_first, value};
 

@@ -1,10 +1,12 @@
 // The reader and the writer over packed codes: four bytes each, low byte first.
+#![tactic(auto)]
+
 ghost use Rattle.std.specs.Prelude.{◌≡◌, ◌++◌, ◌+◌, ◌*◌, ◌/◌, ◌≤◌, min, length, take, drop};
-ghost use Rattle.readings.specs.Reading.{reading, decoding-in};
-ghost use Rattle.reader.specs.Decoded.{decodedOf};
+ghost use Rattle.readings.specs.Reading.{reading, decoding_in};
+ghost use Rattle.reader.specs.Decoded.{decoded_of};
 ghost use Rattle.forms.specs.Forms.{rows_of};
-ghost use Rattle.writings.specs.Writing.{writing, encoding-in};
-ghost use Rattle.writer.specs.Encoded.{encodedOf};
+ghost use Rattle.writings.specs.Writing.{writing, encoding_in};
+ghost use Rattle.writer.specs.Encoded.{encoded_of};
 ghost use Rattle.numbers.specs.Number.{low_first, over};
 ghost use Rattle.numbers.specs.Filled.{Filled};
 ghost use Rattle.quads.specs.Bytes.{laid, codes_of};
@@ -33,7 +35,7 @@ fn put(out: &mut [u8], at: usize, x: u32)
 
 // One item of what is left, through a local array for one code.
 fn read_one(form: Form, m: Flags, src: &[u8], codes: &mut [u8]) -> Decoded
-    ensures answer { result ≡ decodedOf (reading (rows_of form) m (min (length codes.old / 4) 1) src.now) }
+    ensures answer { result ≡ decoded_of (reading (rows_of form) m (min (length codes.old / 4) 1) src.now) }
     ensures output { Filled codes.old codes.new (laid (reading (rows_of form) m (min (length codes.old / 4) 1) src.now).codes) }
 {
     let mut one: [u32; 1] = [0];
@@ -48,8 +50,8 @@ fn read_one(form: Form, m: Flags, src: &[u8], codes: &mut [u8]) -> Decoded
 
 // The reader in a coding: a leap, and then an item by the reader's own loop, until that stops for anything but room or the whole room is full.
 pub fn decode_packed(coding: Coding, src: &[u8], codes: &mut [u8], flags: u32) -> Decoded
-    ensures answer { result ≡ decodedOf (decoding-in coding flags (length codes.old / 4) src.now) }
-    ensures output { codes.new ≡ over (laid (decoding-in coding flags (length codes.old / 4) src.now).codes) codes.old }
+    ensures answer { result ≡ decoded_of (decoding_in coding flags (length codes.old / 4) src.now) }
+    ensures output { codes.new ≡ over (laid (decoding_in coding flags (length codes.old / 4) src.now).codes) codes.old }
 {
     if codings::reader_refuses_in(coding, flags) {
         return Decoded {
@@ -108,7 +110,7 @@ fn code(a: u8, b: u8, c: u8, d: u8) -> u32
 // The writer for the first code, through a local array.
 fn write_one(form: Form, m: Flags, codes: &[u8], dst: &mut [u8]) -> Encoded
     requires { 4 ≤ length codes.now }
-    ensures answer { result ≡ encodedOf (writing (rows_of form) m (length dst.old) (take 1 (codes_of codes.now))) }
+    ensures answer { result ≡ encoded_of (writing (rows_of form) m (length dst.old) (take 1 (codes_of codes.now))) }
     ensures output { dst.new ≡ over (writing (rows_of form) m (length dst.old) (take 1 (codes_of codes.now))).written dst.old }
 {
     let one = [code(codes[0], codes[1], codes[2], codes[3])];
@@ -117,8 +119,8 @@ fn write_one(form: Form, m: Flags, codes: &[u8], dst: &mut [u8]) -> Encoded
 
 // The writer in a coding: leap after leap, and between them one code, until the writer stops there or no codes are left.
 pub fn encode_packed(coding: Coding, codes: &[u8], dst: &mut [u8], flags: u32) -> Encoded
-    ensures answer { result ≡ encodedOf (encoding-in coding flags (length dst.old) (codes_of codes.now)) }
-    ensures output { dst.new ≡ over (encoding-in coding flags (length dst.old) (codes_of codes.now)).written dst.old }
+    ensures answer { result ≡ encoded_of (encoding_in coding flags (length dst.old) (codes_of codes.now)) }
+    ensures output { dst.new ≡ over (encoding_in coding flags (length dst.old) (codes_of codes.now)).written dst.old }
 {
     if codings::writer_refuses_in(coding, flags) {
         return Encoded {

@@ -5,7 +5,7 @@ use Rattle.form.specs.Table.{plain}
 use Rattle.form.specs.Text.{Clean, plain_runs}
 use Rattle.codings.specs.declared.Coding.TheVariants.{Utf8}
 use Rattle.readings.specs.Reading.{Reading, decoding}
-use Rattle.state.specs.Meaning.{held, recordOf}
+use Rattle.state.specs.Meaning.{held, record_of}
 use Rattle.restart.specs.Runs.{Bits, eight, sixteen, thirty_two}
 use Rattle.restart.specs.Packets.{start}
 use Rattle.packets.specs.Reader.{Packet, run}
@@ -38,27 +38,27 @@ CleanList = Clean plain plain_runs
 abbrev pub Gives : Bits → List (List ℕ) → List (List ℕ) → Outcome → Type 0
 Gives b ps is o = InPackets plain b start ps is × (outcome plain b 0 start is ≡ o)
 
-abbrev pub droplet-units : Outcome
-droplet-units = record { units = 0xD83D ∷ 0xDCA7 ∷ []; bad = none; end = start }
+abbrev pub droplet_units : Outcome
+droplet_units = record { units = 0xD83D ∷ 0xDCA7 ∷ []; bad = none; end = start }
 
 pub record Lines : Type 0 where
   -- E1 80 waits, and is then one bad stretch
   pub marks : three 9 ≡ record { number = 0; consumed = 3; codes = 0xFFFD ∷ 0xFFFD ∷ []; subpart = 0 }
-  pub marks-wait : three 8 ≡ record { number = 2; consumed = 2; codes = 0xFFFD ∷ []; subpart = 0 }
+  pub marks_wait : three 8 ≡ record { number = 2; consumed = 2; codes = 0xFFFD ∷ []; subpart = 0 }
   pub strict : three 4 ≡ record { number = 3; consumed = 0; codes = []; subpart = 2 }
-  pub strict-last : three 5 ≡ record { number = 3; consumed = 0; codes = []; subpart = 2 }
+  pub strict_last : three 5 ≡ record { number = 3; consumed = 0; codes = []; subpart = 2 }
   pub refused : three 12 ≡ record { number = 4; consumed = 0; codes = []; subpart = 0 }
   -- the sign is whole again; with LAST in each packet its bytes are escapes, in two clean lists that are not clean together
-  pub forty-minutes : forty ≡ record { number = 0; consumed = 5; codes = 0x34 ∷ 0x30 ∷ 0x2032 ∷ []; subpart = 0 }
-  pub cut-alone : alone (0xE2 ∷ 0x80 ∷ []) ≡ 0xDCE2 ∷ 0xDC80 ∷ []
-  pub rest-alone : alone (0xB2 ∷ []) ≡ 0xDCB2 ∷ []
-  pub cut-clean : CleanList (alone (0xE2 ∷ 0x80 ∷ []))
-  pub rest-clean : CleanList (alone (0xB2 ∷ []))
-  pub both-unclean : CleanList (alone (0xE2 ∷ 0x80 ∷ []) ++ alone (0xB2 ∷ [])) → ⊥
+  pub forty_minutes : forty ≡ record { number = 0; consumed = 5; codes = 0x34 ∷ 0x30 ∷ 0x2032 ∷ []; subpart = 0 }
+  pub cut_alone : alone (0xE2 ∷ 0x80 ∷ []) ≡ 0xDCE2 ∷ 0xDC80 ∷ []
+  pub rest_alone : alone (0xB2 ∷ []) ≡ 0xDCB2 ∷ []
+  pub cut_clean : CleanList (alone (0xE2 ∷ 0x80 ∷ []))
+  pub rest_clean : CleanList (alone (0xB2 ∷ []))
+  pub both_unclean : CleanList (alone (0xE2 ∷ 0x80 ∷ []) ++ alone (0xB2 ∷ [])) → ⊥
   -- empty packets are calls, and the last of them brings the pending unit; without it a call behind the last packet does
   pub droplet :
-      Gives sixteen ([] ∷ (0xF0 ∷ 0x9F ∷ []) ∷ [] ∷ (0x92 ∷ 0xA7 ∷ []) ∷ [] ∷ []) ([] ∷ (0xF0 ∷ 0x9F ∷ []) ∷ [] ∷ (0x92 ∷ 0xA7 ∷ []) ∷ [] ∷ []) droplet-units
-  pub droplet-whole : Gives sixteen ((0xF0 ∷ 0x9F ∷ 0x92 ∷ 0xA7 ∷ []) ∷ []) ((0xF0 ∷ 0x9F ∷ 0x92 ∷ 0xA7 ∷ []) ∷ [] ∷ []) droplet-units
+      Gives sixteen ([] ∷ (0xF0 ∷ 0x9F ∷ []) ∷ [] ∷ (0x92 ∷ 0xA7 ∷ []) ∷ [] ∷ []) ([] ∷ (0xF0 ∷ 0x9F ∷ []) ∷ [] ∷ (0x92 ∷ 0xA7 ∷ []) ∷ [] ∷ []) droplet_units
+  pub droplet_whole : Gives sixteen ((0xF0 ∷ 0x9F ∷ 0x92 ∷ 0xA7 ∷ []) ∷ []) ((0xF0 ∷ 0x9F ∷ 0x92 ∷ 0xA7 ∷ []) ∷ [] ∷ []) droplet_units
   -- a zero byte is a unit, and what is left of a packet is given again: the bad place is that of E2, which was held
   pub zero-bad :
       Gives eight ((0x00 ∷ 0xE2 ∷ []) ∷ (0x34 ∷ []) ∷ []) ((0x00 ∷ 0xE2 ∷ []) ∷ (0xE2 ∷ []) ∷ (0x34 ∷ []) ∷ [])
@@ -69,5 +69,5 @@ pub record Lines : Type 0 where
   -- at the end a partial sequence is held
   pub cut-held :
       Gives eight ((0xF0 ∷ 0x9F ∷ 0x92 ∷ []) ∷ []) ((0xF0 ∷ 0x9F ∷ 0x92 ∷ []) ∷ [])
-      (record { units = []; bad = none; end = recordOf (held (0xF0 ∷ 0x9F ∷ 0x92 ∷ [])) })
-  pub no-packets : Gives eight [] [] (record { units = []; bad = none; end = start })
+      (record { units = []; bad = none; end = record_of (held (0xF0 ∷ 0x9F ∷ 0x92 ∷ [])) })
+  pub no_packets : Gives eight [] [] (record { units = []; bad = none; end = start })

@@ -1,4 +1,6 @@
 // Tries one call a line: a command on standard input, its answer on standard output. `probe --help` lists the commands.
+#![tactic(auto)]
+
 ghost use Rattle.std.specs.Prelude.{◌≡◌, ◌≤◌, length};
 ghost use Rattle.io.specs.Counts.{IsPrefixLen};
 

@@ -1,1 +1,2 @@
 // Codes as four bytes each, low byte first: definitions and laws alone.
+#![tactic(auto)]

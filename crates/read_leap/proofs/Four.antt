@@ -21,8 +21,8 @@ both : (x y : Bool) → (x && y) ≡ true → (x ≡ true) × (y ≡ true)
 both true y e = (refl, e)
 both false y e = absurd (true≢false (sym e))
 
-pub four-of : (a b c d : ℕ) → (ltb a 0x80 && ltb b 0x80 && ltb c 0x80 && ltb d 0x80) ≡ true → Four a b c d
-four-of a b c d e =
+pub four_of : (a b c d : ℕ) → (ltb a 0x80 && ltb b 0x80 && ltb c 0x80 && ltb d 0x80) ≡ true → Four a b c d
+four_of a b c d e =
     let (f, h) = both (ltb a 0x80 && ltb b 0x80 && ltb c 0x80) (ltb d 0x80) e in
     let (g, k) = both (ltb a 0x80 && ltb b 0x80) (ltb c 0x80) f in
     let (i, j) = both (ltb a 0x80) (ltb b 0x80) g in
@@ -40,8 +40,8 @@ four-of a b c d e =
     below la lb lc ld (suc (suc (suc (suc j)))) h = absurd (omega arith)
 
 -- the four bytes at a place
-pub four-taken : (s : List ℕ) (n : ℕ) → n + 4 ≤ length s → (get_or s n 0 ∷ get_or s (n + 1) 0 ∷ get_or s (n + 2) 0 ∷ get_or s (n + 3) 0 ∷ []) ≡ take 4 (drop n s)
-four-taken s n h =
+pub four_taken : (s : List ℕ) (n : ℕ) → n + 4 ≤ length s → (get_or s n 0 ∷ get_or s (n + 1) 0 ∷ get_or s (n + 2) 0 ∷ get_or s (n + 3) 0 ∷ []) ≡ take 4 (drop n s)
+four_taken s n h =
     let e1 : n + 1 + 1 ≡ n + 2 = omega arith in
     let e2 : n + 2 + 1 ≡ n + 3 = omega arith in
     let d0 = byte n (omega arith) in

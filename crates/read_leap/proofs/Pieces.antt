@@ -16,12 +16,12 @@ use Rattle.forms.specs.declared.Form.{Form}
 use Rattle.forms.specs.declared.Form.TheVariants.{Plain, Surro, Cesu}
 use Rattle.forms.specs.Forms.{rows_of}
 use Rattle.straight.specs.declared.Straight.{Straight}
-use Rattle.straight.specs.Straight.{straightOf}
-use Rattle.forms.proofs.Forms.{form-ascii}
-use Rattle.straight.proofs.Laws.{stray-scan, sure-bad, straight-well}
+use Rattle.straight.specs.Straight.{straight_of}
+use Rattle.forms.proofs.Forms.{form_ascii}
+use Rattle.straight.proofs.Laws.{stray-scan, sure_bad, straight_well}
 use Rattle.readings.specs.Reading.{convert, turn}
 use Rattle.readings.specs.Come.{Come, single, Singles}
-use Rattle.readings.proofs.Come.{Layout, converts-one, single-ascii, single-escape, come-start, singles-room, singles-come, turn-well, turn-bad}
+use Rattle.readings.proofs.Come.{Layout, converts-one, single-ascii, single-escape, come_start, singles-room, singles-come, turn-well, turn-bad}
 use Rattle.read_leap.specs.Leap.{Sequenced, Strays}
 
 -- a sequence is not found in no bytes
@@ -32,19 +32,19 @@ nothing Surro c k e = let z : ◌≡◌ {A = ℕ} 0 1 = cc in omega arith
 nothing Cesu c k e = let z : ◌≡◌ {A = ℕ} 0 1 = cc in omega arith
 
 -- a sequence that was found, and put at the front
-pub sequenced : {lay : List ℕ → List ℕ} {w : ℕ → ℕ} (L : Layout lay w) (f : Form) (s d₀ d : List ℕ) (q : Straight) → q ≡ straightOf (scan (rows_of f) s) → (q.len ≡ 0 → ⊥) → w 1 ≤ length d₀
+pub sequenced : {lay : List ℕ → List ℕ} {w : ℕ → ℕ} (L : Layout lay w) (f : Form) (s d₀ d : List ℕ) (q : Straight) → q ≡ straight_of (scan (rows_of f) s) → (q.len ≡ 0 → ⊥) → w 1 ≤ length d₀
     → d ≡ take 0 d₀ ++ lay (q.code ∷ []) ++ drop (0 + length (lay (q.code ∷ []))) d₀ → Sequenced lay (w 1) (rows_of f) s d₀ d q.len
 sequenced {lay} L f s d₀ d q e g h o =
-    let k : q.len ≡ (straightOf (scan (rows_of f) s)).len = ap (λ (x : Straight). x.len) e in
-    let c : q.code ≡ (straightOf (scan (rows_of f) s)).code = ap (λ (x : Straight). x.code) e in
+    let k : q.len ≡ (straight_of (scan (rows_of f) s)).len = ap (λ (x : Straight). x.len) e in
+    let c : q.code ≡ (straight_of (scan (rows_of f) s)).code = ap (λ (x : Straight). x.code) e in
     inr (
       omega arith,
-      (q.code, rw (k, c) (straight-well f s (λ z. g (k ∙ z))), filled_put d₀ d₀ [] (filled_none d₀) 0 refl (lay (q.code ∷ [])) d (omega (arith, L.lengths (q.code ∷ []))) o),
+      (q.code, rw (k, c) (straight_well f s (λ z. g (k ∙ z))), filled_put d₀ d₀ [] (filled_none d₀) 0 refl (lay (q.code ∷ [])) d (omega (arith, L.lengths (q.code ∷ []))) o),
     )
 
 module _ (f : Form) (m : Flags) where
   turn-ascii : (b : ℕ) (t : List ℕ) → b < 0x80 → turn (rows_of f) m (b ∷ t) ≡ convert (single b) 1
-  turn-ascii b t h = rw (single-ascii b h) (turn-well (rows_of f) m b t b 1 (form-ascii f b t h))
+  turn-ascii b t h = rw (single-ascii b h) (turn-well (rows_of f) m b t b 1 (form_ascii f b t h))
 
   turn-sequence : (s : List ℕ) (c k : ℕ) → scan (rows_of f) s ≡ well c k → turn (rows_of f) m s ≡ convert c k
   turn-sequence [] c k e = absurd (nothing f c k e)
@@ -58,12 +58,12 @@ module _ (f : Form) (m : Flags) where
         go (yes l) = turn-ascii b t l
         go (no l) = let (n, e) = stray-scan f b t (omega arith) h in rw (single-escape b (omega arith)) (turn-bad (rows_of f) m b t n p q e)
 
-    turn-first : (b : ℕ) (t : List ℕ) → (b ≡ 0xED → ⊥) → 4 ≤ length (b ∷ t) → (straightOf (scan (rows_of f) (b ∷ t))).len ≡ 0 → turn (rows_of f) m (b ∷ t) ≡ convert (single b) 1
+    turn-first : (b : ℕ) (t : List ℕ) → (b ≡ 0xED → ⊥) → 4 ≤ length (b ∷ t) → (straight_of (scan (rows_of f) (b ∷ t))).len ≡ 0 → turn (rows_of f) m (b ∷ t) ≡ convert (single b) 1
     turn-first b t g l z = go (dec_lt b 0x80)
       where
         go : Dec (b < 0x80) → turn (rows_of f) m (b ∷ t) ≡ convert (single b) 1
         go (yes h) = turn-ascii b t h
-        go (no h) = let (n, e) = sure-bad f b t g l z in rw (single-escape b (omega arith)) (turn-bad (rows_of f) m b t n p q e)
+        go (no h) = let (n, e) = sure_bad f b t g l z in rw (single-escape b (omega arith)) (turn-bad (rows_of f) m b t n p q e)
 
   module _ {lay : List ℕ → List ℕ} {w : ℕ → ℕ} (L : Layout lay w) (s d₀ d : List ℕ) (r : ℕ) where
     pub ascii-come : Singles lay 0x80 0 s d₀ d r → Come lay (rows_of f) m s d₀ d r r
@@ -74,12 +74,12 @@ module _ (f : Form) (m : Flags) where
     sequenced-come (inr (h, (c, e, F))) g =
         record { codes = c ∷ []; count = refl; converts = converts-one (rows_of f) m s c r (turn-sequence s c r e); filled = F }
 
-    pub sequenced-none : Sequenced lay (w 1) (rows_of f) s d₀ d r → r ≡ 0 → (d ≡ d₀) × (w 1 ≤ length d₀ → (straightOf (scan (rows_of f) s)).len ≡ 0)
+    pub sequenced-none : Sequenced lay (w 1) (rows_of f) s d₀ d r → r ≡ 0 → (d ≡ d₀) × (w 1 ≤ length d₀ → (straight_of (scan (rows_of f) s)).len ≡ 0)
     sequenced-none (inl (e, o, z)) g = (o, z)
     sequenced-none (inr (h, o)) g = absurd (omega arith)
 
-    pub strays-come : m.strict ≡ false → m.show ≡ false → (w 1 ≤ length d₀ → (straightOf (scan (rows_of f) s)).len ≡ 0) → Strays lay s d₀ d r → Come lay (rows_of f) m s d₀ d r r
-    strays-come p q z (inl (e, o)) = rw (e, o) (come-start L (rows_of f) m s d₀)
+    pub strays-come : m.strict ≡ false → m.show ≡ false → (w 1 ≤ length d₀ → (straight_of (scan (rows_of f) s)).len ≡ 0) → Strays lay s d₀ d r → Come lay (rows_of f) m s d₀ d r r
+    strays-come p q z (inl (e, o)) = rw (e, o) (come_start L (rows_of f) m s d₀)
     strays-come p q z (inr (h, g, S)) = singles-come L S (turn-single p q) first
       where
         room : 0 < r → w r ≤ length d₀ → w 1 ≤ length d₀

@@ -21,9 +21,9 @@ pub record Way (lay : List ℕ → List ℕ) (w : ℕ → ℕ) (f : Form) (care 
   pub same : length d ≡ length d₀
   pub onward : (m : Flags) → care ≡ (m.strict || m.show) → Onward lay (rows_of f) m s d₀ d at₀ n₀ at n
 
-or-false : (a b : Bool) → (a || b) ≡ false → (a ≡ false) × (b ≡ false)
-or-false true b e = absurd (true≢false e)
-or-false false b e = (refl, e)
+or_false : (a b : Bool) → (a || b) ≡ false → (a ≡ false) × (b ≡ false)
+or_false true b e = absurd (true≢false e)
+or_false false b e = (refl, e)
 
 -- the bytes that are left, the part of a buffer from the cell k on, and the buffer with that part as it came back
 abbrev pub left : List ℕ → ℕ → List ℕ
@@ -81,5 +81,5 @@ module _ {lay : List ℕ → List ℕ} {w : ℕ → ℕ} (L : Layout lay w) wher
         let v = (way-passed y q r S g).0 in
         way-part v p k k
         (λ x i.
-        let (a, b) = or-false x.strict x.show (sym i ∙ c) in
+        let (a, b) = or_false x.strict x.show (sym i ∙ c) in
         strays-come f x L (left s at) (part (back d (w n) q) (w n)) p k a b (λ l. z (omega (arith, y.same, v.same, part_length d (w n), part_length (back d (w n) q) (w n)))) Z)

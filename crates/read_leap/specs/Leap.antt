@@ -3,13 +3,13 @@ use Rattle.std.specs.Prelude.{◌≡◌, ◌⊎◌, List, [], ◌∷◌, ℕ, �
 use Rattle.numbers.specs.Filled.{Filled}
 use Rattle.form.specs.Table.{Form}
 use Rattle.form.specs.Scan.{well, scan}
-use Rattle.straight.specs.Straight.{straightOf}
+use Rattle.straight.specs.Straight.{straight_of}
 use Rattle.readings.specs.Come.{Singles}
 
 -- one sequence, where there is room for a code of w cells; or nothing
 abbrev pub Sequenced : (List ℕ → List ℕ) → ℕ → Form → List ℕ → List ℕ → List ℕ → ℕ → Type 0
 Sequenced lay w F s d₀ d r =
-    ((r ≡ 0) × (d ≡ d₀) × (w ≤ length d₀ → (straightOf (scan F s)).len ≡ 0)) ⊎ ((0 < r) × ((c : ℕ) × (scan F s ≡ well c r) × Filled d₀ d (lay (c ∷ []))))
+    ((r ≡ 0) × (d ≡ d₀) × (w ≤ length d₀ → (straight_of (scan F s)).len ≡ 0)) ⊎ ((0 < r) × ((c : ℕ) × (scan F s ≡ well c r) × Filled d₀ d (lay (c ∷ []))))
 
 -- the first byte, which is not ED and has three behind it, and some below C2; or nothing
 abbrev pub Strays : (List ℕ → List ℕ) → List ℕ → List ℕ → List ℕ → ℕ → Type 0

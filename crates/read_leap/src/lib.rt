@@ -1,4 +1,6 @@
 // The reader's leap over codes: what needs no care is read in a straight line.
+#![tactic(auto)]
+
 ghost use Rattle.std.specs.Prelude.{◌≡◌, [], ◌∷◌, ◌++◌, ◌+◌, ◌≤◌, min, length, take, drop};
 ghost use Rattle.forms.specs.Forms.{rows_of};
 ghost use Rattle.readings.specs.Come.{as_is, Singles, Onward};

@@ -1,4 +1,6 @@
 // The reader's leap over packed codes, four bytes each, low byte first: what needs no care is read in a straight line.
+#![tactic(auto)]
+
 ghost use Rattle.std.specs.Prelude.{◌≡◌, [], ◌∷◌, ◌++◌, ◌+◌, ◌≤◌, min, length, take, drop};
 ghost use Rattle.numbers.specs.Number.{laid_in};
 ghost use Rattle.forms.specs.Forms.{rows_of};

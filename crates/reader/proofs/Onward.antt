@@ -14,14 +14,14 @@ use Rattle.flags.specs.declared.Flags.{Flags}
 use Rattle.form.specs.Table.{Form}
 use Rattle.readings.specs.Reading.{Reading, stopped, follow, reading}
 use Rattle.readings.specs.Come.{Come}
-use Rattle.readings.proofs.Come.{Layout, come-same, come-used-up, come-stops, come-reading, come-lent}
+use Rattle.readings.proofs.Come.{Layout, come_same, come-used-up, come-stops, come-reading, come-lent}
 use Rattle.readings.proofs.Theorems.{reading-within, reading-full-up}
 use Rattle.reader.specs.declared.Decoded.{Decoded}
-use Rattle.reader.specs.Decoded.{decodedOf}
+use Rattle.reader.specs.Decoded.{decoded_of}
 
 -- the promise of a call that reads s into a buffer with so much room: it was d₀ and is d
 abbrev pub Answers : (List ℕ → List ℕ) → Form → Flags → ℕ → List ℕ → List ℕ → List ℕ → Decoded → Type 0
-Answers lay F m room s d₀ d q = (q ≡ decodedOf (reading F m room s)) × (d ≡ over (lay (reading F m room s).codes) d₀)
+Answers lay F m room s d₀ d q = (q ≡ decoded_of (reading F m room s)) × (d ≡ over (lay (reading F m room s).codes) d₀)
 
 -- what holds after an item was read with the answer q: the end of the reading, or the next place
 pub record Item (lay : List ℕ → List ℕ) (F : Form) (m : Flags) (room : ℕ) (s d₀ d : List ℕ) (at n : ℕ) (q : Decoded) : Type 0 where
@@ -37,7 +37,7 @@ module _ {lay : List ℕ → List ℕ} {w : ℕ → ℕ} (L : Layout lay w) {F :
   where
     -- where no bytes are left the reading has ended
     pub ended : at ≡ length s → Answers lay F m room s d₀ d (record { number = 0; consumed = at; produced = n; subpart = 0 })
-    unfolding decodedOf follow stopped
+    unfolding decoded_of follow stopped
     ended e = rw (come-used-up L r room h e, append-nil, r.count, add-zero) (refl, r.filled.front)
 
     -- the room for an item, and what is read into it
@@ -47,8 +47,8 @@ module _ {lay : List ℕ → List ℕ} {w : ℕ → ℕ} (L : Layout lay w) {F :
     abbrev R : Reading
     R = reading F m a (drop at s)
 
-    item : (p : List ℕ) → Filled d₀ p (lay (r.codes ++ R.codes)) → Item lay F m room s d₀ p at n (decodedOf R)
-    unfolding decodedOf follow
+    item : (p : List ℕ) → Filled d₀ p (lay (r.codes ++ R.codes)) → Item lay F m room s d₀ p at n (decoded_of R)
+    unfolding decoded_of follow
     item p f =
         let c = come-reading L r a p f in
         let u = reading-within F m a (drop at s) in
@@ -56,16 +56,16 @@ module _ {lay : List ℕ → List ℕ} {w : ℕ → ℕ} (L : Layout lay w) {F :
         record {
           place = c.converts.within;
           few = omega (arith, u.1);
-          same = come-same L c;
+          same = come_same L c;
           ends = λ g. rw (come-stops L r room h a (omega arith) g) (rw count refl, f.front);
           goes_on = λ e g. (c, omega (arith, (reading-full-up F m a (drop at s) e).0));
         }
 
     -- into a part of the buffer, `&mut d[w n..]`, that was lent
-    pub item-lent : (k : ℕ) → k ≡ a → (q : Decoded) (p : List ℕ) → q ≡ decodedOf (reading F m k (take (length s - at) (drop at s)))
+    pub item_lent : (k : ℕ) → k ≡ a → (q : Decoded) (p : List ℕ) → q ≡ decoded_of (reading F m k (take (length s - at) (drop at s)))
         → Filled (mid_of (w n) (length d - w n) d) p (lay (reading F m k (take (length s - at) (drop at s))).codes)
         → Item lay F m room s d₀ (put_mid (w n) (length d - w n) d p) at n q
-    item-lent k i q p e f =
+    item_lent k i q p e f =
         let l : reading F m k (take (length s - at) (drop at s)) ≡ R = ap (reading F m k) (part_to_end s at) ∙ ap (λ (x : ℕ). reading F m x (drop at s)) i in
         let o = item (put_mid (w n) (length d - w n) d p) (come-lent L r R.codes p (subst (λ (X : Reading). Filled (mid_of (w n) (length d - w n) d) p (lay X.codes)) l f)) in
-        subst (Item lay F m room s d₀ (put_mid (w n) (length d - w n) d p) at n) (sym (e ∙ ap decodedOf l)) o
+        subst (Item lay F m room s d₀ (put_mid (w n) (length d - w n) d p) at n) (sym (e ∙ ap decoded_of l)) o

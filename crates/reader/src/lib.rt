@@ -1,9 +1,11 @@
 // The loop of the whole-buffer reader: bytes to codes, for any form and flags.
+#![tactic(auto)]
+
 ghost use Rattle.std.specs.Prelude.{◌≡◌, cond, ◌++◌, ◌-◌, max, eqb, length, drop};
 ghost use Rattle.forms.specs.Forms.{rows_of};
 ghost use Rattle.form.specs.Text.{escape};
 ghost use Rattle.readings.specs.Reading.{reading};
-ghost use Rattle.reader.specs.Decoded.{decodedOf};
+ghost use Rattle.reader.specs.Decoded.{decoded_of};
 
 use flags::Flags;
 use forms::Form;
@@ -47,7 +49,7 @@ fn subpart_by(stage: usize, n: usize) -> usize
 // The reader, for any form and flags. The stops at each place, in document 01's order: input used up, waiting for more of a sequence, no sequence where one
 // is demanded, output full.
 pub fn read_as(form: Form, m: Flags, s: &[u8], codes: &mut [u32]) -> Decoded
-    ensures answer { result ≡ decodedOf (reading (rows_of form) m (length codes.old) s.now) }
+    ensures answer { result ≡ decoded_of (reading (rows_of form) m (length codes.old) s.now) }
     ensures output { codes.new ≡ (reading (rows_of form) m (length codes.old) s.now).codes ++ drop result.produced codes.old }
 {
     let mut at: usize = 0;

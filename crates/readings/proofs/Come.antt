@@ -80,15 +80,15 @@ pub cells : Layout as_is (λ n. n)
 cells = record { empty = refl; lengths = λ l. refl; adds = λ n i. refl; joins = λ a b. refl }
 
 module _ {lay : List ℕ → List ℕ} {w : ℕ → ℕ} (L : Layout lay w) where
-  pub come-start : (F : Form) (m : Flags) (s d : List ℕ) → Come lay F m s d d 0 0
-  come-start F m s d = record { codes = []; count = refl; converts = converts-none F m s; filled = rw L.empty (filled_none d) }
+  pub come_start : (F : Form) (m : Flags) (s d : List ℕ) → Come lay F m s d d 0 0
+  come_start F m s d = record { codes = []; count = refl; converts = converts-none F m s; filled = rw L.empty (filled_none d) }
 
   module _ {F : Form} {m : Flags} {s d₀ d : List ℕ} {at n : ℕ} (r : Come lay F m s d₀ d at n) where
     size : length (lay r.codes) ≡ w n
     size = L.lengths r.codes ∙ ap w r.count
 
-    pub come-same : length d ≡ length d₀
-    come-same = filled-same d₀ d (lay r.codes) r.filled
+    pub come_same : length d ≡ length d₀
+    come_same = filled-same d₀ d (lay r.codes) r.filled
 
     pub come-room : w n ≤ length d₀
     come-room = rw (← size) r.filled.fits
@@ -158,14 +158,14 @@ module _ {lay : List ℕ → List ℕ} {w : ℕ → ℕ} (L : Layout lay w) wher
         → Onward lay F m s d₀ (put_mid (w n) (length d - w n) d p) at₀ n₀ (at + j) (n + i)
     onward-part p j i q =
         record {
-          same = same_len_mid (w n) (length d - w n) d p (come-same q) ∙ o.same;
+          same = same_len_mid (w n) (length d - w n) d p (come_same q) ∙ o.same;
           forth = omega (arith, o.forth);
           keeps = λ z r. come-part (o.keeps z r) p j i q;
         }
 
     -- a part that comes back as it was
     pub onward-none : (p : List ℕ) → p ≡ mid_of (w n) (length d - w n) d → Onward lay F m s d₀ (put_mid (w n) (length d - w n) d p) at₀ n₀ at n
-    onward-none p e = rw (add-zero at, add-zero n) at (onward-part p 0 0 (rw (← e) (come-start F m _ p)))
+    onward-none p e = rw (add-zero at, add-zero n) at (onward-part p 0 0 (rw (← e) (come_start F m _ p)))
 
   -- ---- bytes that are read one by one
 

@@ -8,7 +8,7 @@ use Rattle.readings.specs.Stops.{BadAt}
 -- the code c stands for the first k bytes of s: for a well-formed sequence; or, where none starts and STRICT is absent, with SHOW as a mark for the maximal
 -- subpart, and otherwise as an escape for one byte
 pub data StandsFor (F : Form) (n : ℕ) (m : Flags) (s : List ℕ) (c k : ℕ) : Type 0 where
-  well-formed : k ≤ length s → Codes F (take k s) c → StandsFor F n m s c k
+  well_formed : k ≤ length s → Codes F (take k s) c → StandsFor F n m s c k
   mark : m.strict ≡ false → m.show ≡ true → BadAt F n m s k → c ≡ 0xFFFD → StandsFor F n m s c k
   escaped : m.strict ≡ false → m.show ≡ false → (b j : ℕ) (t : List ℕ) → s ≡ b ∷ t → BadAt F n m s j → c ≡ escape b → k ≡ 1 → StandsFor F n m s c k
 

@@ -1,1 +1,2 @@
 // What the reader gives, and what follows of it: definitions and theorems alone.
+#![tactic(auto)]

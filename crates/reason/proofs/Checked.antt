@@ -9,10 +9,10 @@ unfolding plain judged reason
 lines =
     record {
       letter = refl;
-      e-acute = refl;
-      inside-e-acute = refl;
+      e_acute = refl;
+      inside_e_acute = refl;
       C0 = refl;
-      after-C0 = refl;
+      after_C0 = refl;
       F5 = refl;
       FF = refl;
       E0-80 = refl;
@@ -24,11 +24,11 @@ lines =
       F0-90-letter = refl;
       C2-zero = refl;
       E1-80-E2 = refl;
-      last-E2 = refl;
+      last_E2 = refl;
       E0-alone = refl;
-      cut-droplet = refl;
-      cut-prime = refl;
+      cut_droplet = refl;
+      cut_prime = refl;
       none = refl;
-      at-end = refl;
-      far-past = refl;
+      at_end = refl;
+      far_past = refl;
     }

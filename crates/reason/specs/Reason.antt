@@ -4,7 +4,7 @@ use Rattle.form.specs.Table.{Range, ◌to◌, plain, tail, In, Fits, WellFormed,
 use Rattle.form.specs.Scan.{Fit, whole, short, stops, fit, Found, well, part, bad, scan}
 
 pub data Reason : Type 0 where
-  good lone never beyond too_long surrogate too-high cut_short unfinished at-end : Reason
+  good lone never beyond too_long surrogate too_high cut_short unfinished at_end : Reason
 
 abbrev pub number : Reason → ℕ
 number good = 0
@@ -13,10 +13,10 @@ number never = 2
 number beyond = 3
 number too_long = 4
 number surrogate = 5
-number too-high = 6
+number too_high = 6
 number cut_short = 7
 number unfinished = 8
-number at-end = 9
+number at_end = 9
 
 -- the first bytes of s are in the ranges, one in each
 abbrev pub Opens : List Range → List ℕ → Type 0
@@ -37,13 +37,13 @@ Holds too_long s = Opens (0xE0 to 0xE0 ∷ 0x80 to 0x9F ∷ []) s ⊎ Opens (0xF
 -- a surrogate: ED then A0..BF
 Holds surrogate s = Opens (0xED to 0xED ∷ 0xA0 to 0xBF ∷ []) s
 -- too high: F4 then 90..BF
-Holds too-high s = Opens (0xF4 to 0xF4 ∷ 0x90 to 0xBF ∷ []) s
+Holds too_high s = Opens (0xF4 to 0xF4 ∷ 0x90 to 0xBF ∷ []) s
 -- after a partial sequence, where a continuation was due, a byte that is not 80..BF
 Holds cut_short s = (w : List ℕ) × (b : ℕ) × (z : List ℕ) × (s ≡ w ++ b ∷ z) × Partial plain w × (In tail b → ⊥)
 -- the rest is a partial sequence
 Holds unfinished s = Partial plain s
 -- there is no byte
-Holds at-end s = s ≡ []
+Holds at_end s = s ≡ []
 
 -- ---- the reason that is given. Nobody has to believe it: `exactly` says that it is the one that holds
 
@@ -59,7 +59,7 @@ signs =
     ∷ sign too_long (0xE0 to 0xE0 ∷ 0x80 to 0x9F ∷ [])
     ∷ sign too_long (0xF0 to 0xF0 ∷ 0x80 to 0x8F ∷ [])
     ∷ sign surrogate (0xED to 0xED ∷ 0xA0 to 0xBF ∷ [])
-    ∷ sign too-high (0xF4 to 0xF4 ∷ 0x90 to 0xBF ∷ [])
+    ∷ sign too_high (0xF4 to 0xF4 ∷ 0x90 to 0xBF ∷ [])
     ∷ []
 
 abbrev pub whole? : Fit → Bool
@@ -71,19 +71,19 @@ abbrev pub opens? : List Range → List ℕ → Bool
 opens? rs s = whole? (fit rs s)
 
 -- by the first sign that opens s
-abbrev pub first-sign : List Sign → List ℕ → Reason
-first-sign [] s = cut_short
-first-sign (sign r rs ∷ l) s = cond (opens? rs s) r (first-sign l s)
+abbrev pub first_sign : List Sign → List ℕ → Reason
+first_sign [] s = cut_short
+first_sign (sign r rs ∷ l) s = cond (opens? rs s) r (first_sign l s)
 
 unfoldable pub judged : List ℕ → Reason
-judged s = first-sign signs s
+judged s = first_sign signs s
 
-abbrev pub by-found : Found → List ℕ → Reason
-by-found (well c n) s = good
-by-found part [] = at-end
-by-found part (b ∷ s) = unfinished
-by-found (bad n) s = judged s
+abbrev pub by_found : Found → List ℕ → Reason
+by_found (well c n) s = good
+by_found part [] = at_end
+by_found part (b ∷ s) = unfinished
+by_found (bad n) s = judged s
 
 -- at a place of s, read afresh
 unfoldable pub reason : List ℕ → ℕ → Reason
-reason s place = by-found (scan plain (drop place s)) (drop place s)
+reason s place = by_found (scan plain (drop place s)) (drop place s)

@@ -3,7 +3,7 @@ use Rattle.std.specs.Prelude.{◌≡◌, ◌↔◌, List, ℕ, suc, ◌≤◌, �
 use Rattle.form.specs.Table.{plain, tail, In, Begins}
 use Rattle.form.specs.Subpart.{StartsNone, Subpart}
 use Rattle.form.specs.Text.{Bytes}
-use Rattle.reason.specs.Reason.{Reason, good, lone, never, beyond, too_long, surrogate, too-high, cut_short, unfinished, at-end, number, Holds, reason}
+use Rattle.reason.specs.Reason.{Reason, good, lone, never, beyond, too_long, surrogate, too_high, cut_short, unfinished, at_end, number, Holds, reason}
 
 -- at this place of these bytes exactly one reason holds, and it is the one that is given
 pub record Exactly (s : List ℕ) (place : ℕ) : Type 0 where
@@ -24,18 +24,18 @@ Judged never s = LeavesNone s 0
 Judged beyond s = LeavesNone s 0
 Judged too_long s = LeavesNone s 1
 Judged surrogate s = LeavesNone s 1
-Judged too-high s = LeavesNone s 1
+Judged too_high s = LeavesNone s 1
 Judged cut_short s = (n : ℕ) × (1 ≤ n) × LeavesNone s n × (In tail (get_or s n 0) → ⊥)
 Judged unfinished s = Begins plain s
-Judged at-end s = Unit {0}
+Judged at_end s = Unit {0}
 
 pub record Request : Type 0 where
   -- "For a bad place in plain UTF-8, LAST given and SURRO absent, name the reason": one of 1 to 8 is given exactly where there is a byte and no
   -- well-formed sequence starts
-  pub bad-place : (s : List ℕ) (place : ℕ) → Bytes s
+  pub bad_place : (s : List ℕ) (place : ℕ) → Bytes s
       → ((1 ≤ number (reason s place)) × (number (reason s place) ≤ 8)) ↔ ((place < length s) × StartsNone plain (drop place s))
   -- "judged at the first byte that leaves no well-formed sequence"
-  pub judged-there : (r : Reason) (s : List ℕ) → Holds r s → Judged r s
+  pub judged_there : (r : Reason) (s : List ℕ) → Holds r s → Judged r s
   -- "at or past the end 9", and nowhere else
   pub past_end : (s : List ℕ) (place : ℕ) → Bytes s → (number (reason s place) ≡ 9) ↔ (length s ≤ place)
   -- "Exactly one is true", at any place

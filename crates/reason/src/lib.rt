@@ -1,4 +1,6 @@
 // Why the bytes at a place are bad, in plain UTF-8 with LAST.
+#![tactic(auto)]
+
 ghost use Rattle.std.specs.Prelude.{◌≡◌, [], ◌∷◌};
 ghost use Rattle.form.specs.Table.{◌to◌};
 ghost use Rattle.form.specs.Scan.{in?};

@@ -1,4 +1,6 @@
 // The reader's companion.
+#![tactic(auto)]
+
 ghost use Rattle.std.specs.Prelude.{◌≡◌, ◌++◌, length, drop};
 ghost use Rattle.readings.specs.Reading.{decoding};
 ghost use Rattle.rest.specs.Rest.{RestOf};

@@ -10,11 +10,11 @@ use borrow.Author.Tests.{eqb-true}
 use Rattle.form.specs.Table.{Form}
 use Rattle.form.specs.Scan.{Found, well, part, bad, scan}
 use Rattle.form.proofs.EncodingForms.{EncodingForm}
-use Rattle.state.specs.Meaning.{starting, held, trail, low, high, Sense, invalid, valid, senseOf}
+use Rattle.state.specs.Meaning.{starting, held, trail, low, high, Sense, invalid, valid, sense_of}
 use Rattle.state.specs.declared.Record.{Record}
 use Rattle.units.specs.Width.{Width}
-use Rattle.advance.specs.Step.{Name, refused, continuation, incomplete, bad-sequence, null, unit, tell, Step, to, hold, convert, reads, come-out, step}
-use Rattle.restart.specs.Runs.{Bits, width, reading, going_on, until-decided, total}
+use Rattle.advance.specs.Step.{Name, refused, continuation, incomplete, bad_sequence, null, unit, tell, Step, to, hold, convert, reads, come_out, step}
+use Rattle.restart.specs.Runs.{Bits, width, reading, going_on, until_decided, total}
 use Rattle.restart.specs.Packets.{later}
 use Rattle.restart.proofs.States.{sense-state, sense-valid, part-hold, few, reads_on, reads-found}
 
@@ -24,17 +24,17 @@ abbrev named : Step → Name
 named x = x.answer.name
 
 data Reader (F : Form) (b : Bits) (s : Record) : Type 0 where
-  holds : (h : List ℕ) → senseOf F s ≡ valid (hold h) → Reader F b s
+  holds : (h : List ℕ) → sense_of F s ≡ valid (hold h) → Reader F b s
   settled : (x : Step) → (named x ≡ incomplete → ⊥) → ((i : List ℕ) → reading F b s i ≡ x) → Reader F b s
 
-comes-out : (W : Width) (s : Record) (us : List ℕ) → named (come-out W s us) ≡ incomplete → ⊥
-comes-out W s [] e = let z : ◌≡◌ {A = ℕ} 0 1 = cc in omega arith
-comes-out W s (u ∷ us) e = let z : ◌≡◌ {A = ℕ} 0 1 = cc in omega arith
+comes_out : (W : Width) (s : Record) (us : List ℕ) → named (come_out W s us) ≡ incomplete → ⊥
+comes_out W s [] e = let z : ◌≡◌ {A = ℕ} 0 1 = cc in omega arith
+comes_out W s (u ∷ us) e = let z : ◌≡◌ {A = ℕ} 0 1 = cc in omega arith
 
 -- all that was held and came is a partial sequence, and is held now
 record Waits (F : Form) (b : Bits) (s : Record) (h i : List ℕ) : Type 0 where
   parts : scan F (h ++ i) ≡ part
-  after : senseOf F (reading F b s i).next ≡ valid (hold (h ++ i))
+  after : sense_of F (reading F b s i).next ≡ valid (hold (h ++ i))
 
 reads-name : (W : Width) (h i : List ℕ) (x : Found) → named (reads W h i x) ≡ incomplete → x ≡ part
 reads-name W h i part n = refl
@@ -48,12 +48,12 @@ reads-name W h i (well c m) n = go (eqb c 0) n
 module _ {F : Form} {n : ℕ} (E : EncodingForm F n) (room : n ≤ 15) where
   reader : (b : Bits) (s : Record) → Reader F b s
   unfolding step
-  reader b s = go (senseOf F s) refl
+  reader b s = go (sense_of F s) refl
     where
-      out : (us : List ℕ) → ((i : List ℕ) → reading F b s i ≡ come-out (width b) s us) → Reader F b s
-      out us f = settled (come-out (width b) s us) (comes-out (width b) s us) f
+      out : (us : List ℕ) → ((i : List ℕ) → reading F b s i ≡ come_out (width b) s us) → Reader F b s
+      out us f = settled (come_out (width b) s us) (comes_out (width b) s us) f
 
-      go : (x : Sense) → senseOf F s ≡ x → Reader F b s
+      go : (x : Sense) → sense_of F s ≡ x → Reader F b s
       go invalid e = out [] (λ i. rw e refl)
       go (valid starting) e = holds [] e
       go (valid (held [])) e = let v = sense-valid E s (held []) e in absurd (omega arith)
@@ -62,17 +62,17 @@ module _ {F : Form} {n : ℕ} (E : EncodingForm F n) (room : n ≤ 15) where
       go (valid (low u)) e = out ((width b).due (low u)) (λ i. rw e refl)
       go (valid (high u)) e = out [] (λ i. rw e refl)
 
-  found-both : (b : Bits) (s : Record) (h i j : List ℕ) (x : Found) → senseOf F s ≡ valid (hold h) → scan F (h ++ i ++ j) ≡ x
+  found-both : (b : Bits) (s : Record) (h i j : List ℕ) (x : Found) → sense_of F s ≡ valid (hold h) → scan F (h ++ i ++ j) ≡ x
       → reading F b s (i ++ j) ≡ reads (width b) h (i ++ j) x
   found-both b s h i j x e f = reads-found F b s h (i ++ j) x e (ap (scan F) (sym (append_assoc h i j)) ∙ f)
 
   pub stays : (b : Bits) (s : Record) (i j : List ℕ) → ((reading F b s i).answer.name ≡ incomplete → ⊥) → reading F b s (i ++ j) ≡ reading F b s i
   stays b s i j k = go (reader b s)
     where
-      by : (h : List ℕ) → senseOf F s ≡ valid (hold h) → (x : Found) → scan F (h ++ i) ≡ x → reading F b s (i ++ j) ≡ reading F b s i
+      by : (h : List ℕ) → sense_of F s ≡ valid (hold h) → (x : Found) → scan F (h ++ i) ≡ x → reading F b s (i ++ j) ≡ reading F b s i
       by h e part f = absurd (k (ap named (reads-found F b s h i part e f)))
-      by h e (well c m) f = found-both b s h i j (well c m) e (E.scans.well-stays (h ++ i) j c m f) ∙ sym (reads-found F b s h i (well c m) e f)
-      by h e (bad m) f = found-both b s h i j (bad m) e (E.scans.bad-stays (h ++ i) j m f) ∙ sym (reads-found F b s h i (bad m) e f)
+      by h e (well c m) f = found-both b s h i j (well c m) e (E.scans.well_stays (h ++ i) j c m f) ∙ sym (reads-found F b s h i (well c m) e f)
+      by h e (bad m) f = found-both b s h i j (bad m) e (E.scans.bad_stays (h ++ i) j m f) ∙ sym (reads-found F b s h i (bad m) e f)
 
       go : Reader F b s → reading F b s (i ++ j) ≡ reading F b s i
       go (holds h e) = by h e (scan F (h ++ i)) refl
@@ -80,22 +80,22 @@ module _ {F : Form} {n : ℕ} (E : EncodingForm F n) (room : n ≤ 15) where
 
   -- ---- an incomplete answer
 
-  waits : (b : Bits) (s : Record) (h i : List ℕ) → senseOf F s ≡ valid (hold h) → (reading F b s i).answer.name ≡ incomplete → Waits F b s h i
+  waits : (b : Bits) (s : Record) (h i : List ℕ) → sense_of F s ≡ valid (hold h) → (reading F b s i).answer.name ≡ incomplete → Waits F b s h i
   waits b s h i e k =
       let p = reads-name (width b) h i (scan F (h ++ i)) (sym (ap named (reads_on F b s h i e)) ∙ k) in
-      let next = ap (λ (x : Step). senseOf F x.next) (reads-found F b s h i part e p) in
+      let next = ap (λ (x : Step). sense_of F x.next) (reads-found F b s h i part e p) in
       record { parts = p; after = next ∙ sense-state E room (hold (h ++ i)) (part-hold E (h ++ i) p) }
 
   -- code 0 is one byte, so nothing was held before it
   pub null-first : (s t : List ℕ) (m : ℕ) → scan F s ≡ part → scan F (s ++ t) ≡ well 0 m → length s ≡ 0
   null-first [] t m p f = refl
-  null-first (b ∷ s) t m p f = go m ((E.ascii _ 0 (omega arith)).0 ((E.scans.finds-well (b ∷ (s ++ t)) 0 m).0 f).0)
+  null-first (b ∷ s) t m p f = go m ((E.ascii _ 0 (omega arith)).0 ((E.scans.finds_well (b ∷ (s ++ t)) 0 m).0 f).0)
     where
       go : (m : ℕ) → take m (b ∷ (s ++ t)) ≡ 0 ∷ [] → length (b ∷ s) ≡ 0
       go zero e = cc
       go (suc m) e =
           let q : b ≡ 0 = cc in
-          let d : scan F (0 ∷ s) ≡ well 0 1 = (E.scans.finds-well (0 ∷ s) 0 1).1 ((E.ascii (0 ∷ []) 0 (omega arith)).1 refl, omega arith) in
+          let d : scan F (0 ∷ s) ≡ well 0 1 = (E.scans.finds_well (0 ∷ s) 0 1).1 ((E.ascii (0 ∷ []) 0 (omega arith)).1 refl, omega arith) in
           let c : scan F (b ∷ s) ≡ well 0 1 = rw q d in
           cc
 
@@ -129,7 +129,7 @@ module _ {F : Form} {n : ℕ} (E : EncodingForm F n) (room : n ≤ 15) where
   -- ---- calls until the sequence is decided
 
   -- after a call x whose answer has the name a
-  decided-from : (is : List (List ℕ)) (b : Bits) (x : Step) (a : Name) (h : List ℕ) → named x ≡ a → (a ≡ incomplete → senseOf F x.next ≡ valid (hold h))
+  decided-from : (is : List (List ℕ)) (b : Bits) (x : Step) (a : Name) (h : List ℕ) → named x ≡ a → (a ≡ incomplete → sense_of F x.next ≡ valid (hold h))
       → n ≤ length h + total is → named (going_on F b x a is) ≡ incomplete → ⊥
   decided-from [] b x a h e f l g = omega (arith, few E h (sense-valid E x.next (hold h) (f (sym e ∙ g))))
   decided-from (i ∷ is) b x incomplete h e f l g =
@@ -137,10 +137,10 @@ module _ {F : Form} {n : ℕ} (E : EncodingForm F n) (room : n ≤ 15) where
       decided-from is b (reading F b s i) (named (reading F b s i)) (h ++ i) refl (λ q. (waits b s h i (f refl) q).after) (omega (arith, length-append h i)) g
   decided-from (i ∷ is) b x refused h e f l g = let z : ◌≡◌ {A = ℕ} 0 1 = cc in omega arith
   decided-from (i ∷ is) b x continuation h e f l g = let z : ◌≡◌ {A = ℕ} 0 1 = cc in omega arith
-  decided-from (i ∷ is) b x bad-sequence h e f l g = let z : ◌≡◌ {A = ℕ} 0 1 = cc in omega arith
+  decided-from (i ∷ is) b x bad_sequence h e f l g = let z : ◌≡◌ {A = ℕ} 0 1 = cc in omega arith
   decided-from (i ∷ is) b x null h e f l g = let z : ◌≡◌ {A = ℕ} 0 1 = cc in omega arith
   decided-from (i ∷ is) b x unit h e f l g = let z : ◌≡◌ {A = ℕ} 0 1 = cc in omega arith
 
-  pub decided : (b : Bits) (s : Record) (h : List ℕ) (is : List (List ℕ)) → senseOf F s ≡ valid (hold h) → n ≤ length h + total is
-      → (until-decided F b s is).answer.name ≡ incomplete → ⊥
+  pub decided : (b : Bits) (s : Record) (h : List ℕ) (is : List (List ℕ)) → sense_of F s ≡ valid (hold h) → n ≤ length h + total is
+      → (until_decided F b s is).answer.name ≡ incomplete → ⊥
   decided b s h is e l g = decided-from is b (record { answer = tell incomplete 2 0 0 0; next = s }) incomplete h refl (λ q. e) l g

@@ -12,7 +12,7 @@ use Rattle.form.proofs.Demand as Lists
 use Rattle.form.proofs.Demand.{write_bytes}
 use Rattle.form.proofs.Utf8.{scalar_below}
 use Rattle.codings.specs.declared.Coding.{Coding}
-use Rattle.codings.specs.Codings.{writer-form, runs}
+use Rattle.codings.specs.Codings.{writer_form, runs}
 use Rattle.codings.proofs.Laws.{sound}
 use Rattle.readings.proofs.Theorems.{reads_all}
 use Rattle.writings.proofs.Theorems.{encoding-write}
@@ -20,7 +20,7 @@ use Rattle.roundtrip.specs.Demand.{Reads, Writes, needs, CleanList, Demand3}
 
 module _ (K : Coding) where
   abbrev F : Form
-  F = writer-form K
+  F = writer_form K
 
   pub lists : Text.Demand3 F (runs K)
   lists = Lists.demand3 F (runs K) (sound K)
@@ -66,7 +66,7 @@ module _ (K : Coding) where
 
   -- what was written of an accepted list are bytes
   written-bytes : (l s : List ℕ) (w : ℕ) → Accepted l → needs K l ≤ w → Writes K w l s → Bytes s
-  written-bytes l s w a n h = rw (is-write l s w a n h) (write_bytes F l (sound K).regular.is-proper)
+  written-bytes l s w a n h = rw (is-write l s w a n h) (write_bytes F l (sound K).regular.is_proper)
 
   pub demand3 : Demand3 K
   demand3 =
@@ -77,7 +77,7 @@ module _ (K : Coding) where
             λ s l k r w b h g c d n.
             let e = is_read s l r h g in
             (write F k, writes k w (clean-accepted k c) n, λ z. lists.only s k b c (λ y. d (y ∙ sym e)) z);
-        accepts = λ l w a n. (write F l, writes l w a n, write_bytes F l (sound K).regular.is-proper);
+        accepts = λ l w a n. (write F l, writes l w a n, write_bytes F l (sound K).regular.is_proper);
         alike =
             λ l m s t a b v w r q al am nl nm wl wm h k ra rb.
             let e = is-write l s v al nl wl in

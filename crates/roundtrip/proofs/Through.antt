@@ -7,12 +7,12 @@ use lib.ListN.{length}
 use Rattle.form.specs.Table.{Form}
 use Rattle.form.specs.Text.{read, All, Bytes, Accepted}
 use Rattle.codings.specs.declared.Coding.{Coding}
-use Rattle.codings.specs.Codings.{writer-form}
+use Rattle.codings.specs.Codings.{writer_form}
 use Rattle.readings.proofs.Theorems.{within, reads_all}
-use Rattle.writings.specs.Writing.{encoding-in}
+use Rattle.writings.specs.Writing.{encoding_in}
 use Rattle.writings.proofs.Theorems.{encoding-write}
 use Rattle.quads.specs.Bytes.{laid, codes_of}
-use Rattle.entries.specs.Entry.{given, decode-entry-in, encode-entry-in}
+use Rattle.entries.specs.Entry.{given, decode_entry_in, encode_entry_in}
 use Rattle.numbers.proofs.Laws.{laid-length}
 use Rattle.quads.proofs.Bytes.{laid-again}
 use Rattle.entries.proofs.Answers.{decode-given, encode-given}
@@ -26,25 +26,25 @@ narrow (c ∷ l) h = (omega (arith, h.0), narrow l h.1)
 
 module _ (K : Coding) where
   abbrev F : Form
-  F = writer-form K
+  F = writer_form K
 
   few : (s : List ℕ) → length (read F s) ≤ length s
   few s = rw (reads_all K (length s) s (omega arith)) at (within K 1 (length s) s).1
 
-  read-in : (s d r : List ℕ) → Buffer (length s * 4) d → length r ≡ 9 → Gives (decode-entry-in K s d 1 r) (length (read F s)) (laid (read F s)) d (length s)
+  read-in : (s d r : List ℕ) → Buffer (length s * 4) d → length r ≡ 9 → Gives (decode_entry_in K s d 1 r) (length (read F s)) (laid (read F s)) d (length s)
   unfolding given
   read-in s d r h e =
       rw (← decode-given K s d r 1 e (omega (arith, h.0, h.1)) h.1) (rw (reads_all K (length d / 4) s (omega (arith, h.0))) (refl, refl, refl))
 
   written_out : (s e q : List ℕ) → Bytes s → length s * 4 ≤ 1048576 → Buffer (length s) e → length q ≡ 9
-      → Gives (encode-entry-in K (laid (read F s)) e 0 q) (length s) s e (length (read F s))
+      → Gives (encode_entry_in K (laid (read F s)) e 0 q) (length s) s e (length (read F s))
   unfolding given
   written_out s e q b m h k =
       let l = read F s in
       let a = read-accepted K s b in
       let x = (lists K).exact s b in
       let n = laid-length 4 l in
-      let w : encoding-in K 0 (length e) (codes_of (laid l)) ≡ record { number = 0; consumed = length l; written = s } =
+      let w : encoding_in K 0 (length e) (codes_of (laid l)) ≡ record { number = 0; consumed = length l; written = s } =
       rw (laid-again l (narrow l a)) (encoding-write K l (length e) a (omega (arith, ap length x, h.0)) ∙ rw x refl) in
       rw (← encode-given K (laid l) e q 0 k (omega (arith, few s)) h.1 (omega arith)) (rw w (refl, refl, refl))
 

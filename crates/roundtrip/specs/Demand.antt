@@ -1,28 +1,28 @@
--- Demand 3, on the two whole-buffer calls of a coding. `decoding-in` and `encoding-in` are what the promises of the calls cite, in UTF-8 as `decoding` and
+-- Demand 3, on the two whole-buffer calls of a coding. `decoding_in` and `encoding_in` are what the promises of the calls cite, in UTF-8 as `decoding` and
 -- `encoding`; every other word is defined here, in codings or in form. Assumes nothing.
 use Rattle.std.specs.Prelude.{◌≡◌, ◌↔◌, List, [], ◌∷◌, ℕ, ◌+◌, ◌≤◌, length}
 use Rattle.form.specs.Text.{bytes, Bytes, Clean, Accepted}
 use Rattle.codings.specs.declared.Coding.{Coding}
-use Rattle.codings.specs.Codings.{writer-form, runs}
-use Rattle.readings.specs.Reading.{decoding-in}
-use Rattle.writings.specs.Writing.{encoding-in}
+use Rattle.codings.specs.Codings.{writer_form, runs}
+use Rattle.readings.specs.Reading.{decoding_in}
+use Rattle.writings.specs.Writing.{encoding_in}
 
 -- the reader with LAST alone, flag number 1, and room r answers 0, consumes every byte of s and gives the list l
 abbrev pub Reads : Coding → ℕ → List ℕ → List ℕ → Type 0
-Reads K r s l = ((decoding-in K 1 r s).number ≡ 0) × ((decoding-in K 1 r s).consumed ≡ length s) × ((decoding-in K 1 r s).codes ≡ l)
+Reads K r s l = ((decoding_in K 1 r s).number ≡ 0) × ((decoding_in K 1 r s).consumed ≡ length s) × ((decoding_in K 1 r s).codes ≡ l)
 
 -- the writer without flags, number 0, and with room w answers 0, consumes every code of l and writes the bytes s
 abbrev pub Writes : Coding → ℕ → List ℕ → List ℕ → Type 0
-Writes K w l s = ((encoding-in K 0 w l).number ≡ 0) × ((encoding-in K 0 w l).consumed ≡ length l) × ((encoding-in K 0 w l).written ≡ s)
+Writes K w l s = ((encoding_in K 0 w l).number ≡ 0) × ((encoding_in K 0 w l).consumed ≡ length l) × ((encoding_in K 0 w l).written ≡ s)
 
 -- what all the codes need together: room w is enough for l if needs K l ≤ w
 abbrev pub needs : Coding → List ℕ → ℕ
 needs K [] = 0
-needs K (c ∷ l) = length (bytes (writer-form K) c) + needs K l
+needs K (c ∷ l) = length (bytes (writer_form K) c) + needs K l
 
 -- a clean list, of scalar values and escapes, with runs of two, three and four, in CESU-8 of two, three and six
 abbrev pub CleanList : Coding → List ℕ → Type 0
-CleanList K = Clean (writer-form K) (runs K)
+CleanList K = Clean (writer_form K) (runs K)
 
 pub record Demand3 (K : Coding) : Type 0 where
   -- For every byte string the reader (LAST alone, room for a code per byte) answers 0, consumes every byte and gives a clean list.

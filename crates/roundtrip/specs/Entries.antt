@@ -4,7 +4,7 @@ use Rattle.std.specs.Prelude.{◌≡◌, List, [], ◌∷◌, ◌++◌, ℕ, ◌
 use Rattle.form.specs.Text.{Bytes}
 use Rattle.numbers.specs.Number.{low_first, over}
 use Rattle.codings.specs.declared.Coding.{Coding}
-use Rattle.entries.specs.Entry.{Entry, decode-entry-in, encode-entry-in}
+use Rattle.entries.specs.Entry.{Entry, decode_entry_in, encode_entry_in}
 
 -- a buffer of so many bytes or more, within the limit
 abbrev pub Buffer : ℕ → List ℕ → Type 0
@@ -17,4 +17,4 @@ Gives e n w d k = (e.answer ≡ pos n) × (e.output ≡ over w d) × (e.report �
 -- for every line s that the buffers have room for, with LAST on the way in and no flags on the way back
 pub record Through (K : Coding) : Type 0 where
   pub back : (s d e r q : List ℕ) → Bytes s → Buffer (length s * 4) d → Buffer (length s) e → length r ≡ 9 → length q ≡ 9
-      → (n : ℕ) × (w : List ℕ) × (length w ≡ n * 4) × Gives (decode-entry-in K s d 1 r) n w d (length s) × Gives (encode-entry-in K w e 0 q) (length s) s e n
+      → (n : ℕ) × (w : List ℕ) × (length w ≡ n * 4) × Gives (decode_entry_in K s d 1 r) n w d (length s) × Gives (encode_entry_in K w e 0 q) (length s) s e n

@@ -13,8 +13,8 @@ use Rattle.form.proofs.Scan.{scan-well, codes-nil}
 use Rattle.form.proofs.After.{resume}
 use Rattle.forms.specs.declared.Form.{Form}
 use Rattle.forms.specs.Forms.{rows_of}
-use Rattle.forms.proofs.Forms.{form-regular, form-scans, every-form}
-use Rattle.straight.specs.Straight.{straightOf}
+use Rattle.forms.proofs.Forms.{form_regular, form_scans, every_form}
+use Rattle.straight.specs.Straight.{straight_of}
 use Rattle.straight.proofs.Shapes.{codes-pair}
 
 abbrev none? : Table.Form → Bool
@@ -29,18 +29,18 @@ resume-none (r ∷ F) s h = absurd h
 pub stray-scan : (f : Form) (b : ℕ) (t : List ℕ) → 0x80 ≤ b → b < 0xC2 → (n : ℕ) × (scan (rows_of f) (b ∷ t) ≡ bad n)
 unfolding plain surro cesu
 stray-scan f b t h g =
-    let e = every-form (λ F x. none? (after x F)) 0x80 66 tt tt tt f b h (omega arith) in
-    (0, (form-scans f).by_byte b t ∙ resume-none (after b (rows_of f)) t e)
+    let e = every_form (λ F x. none? (after x F)) 0x80 66 tt tt tt f b h (omega arith) in
+    (0, (form_scans f).by_byte b t ∙ resume-none (after b (rows_of f)) t e)
 
 -- a length other than 0 is that of what is found
-well-told : (x : Found) → ((straightOf x).len ≡ 0 → ⊥) → x ≡ well (straightOf x).code (straightOf x).len
+well-told : (x : Found) → ((straight_of x).len ≡ 0 → ⊥) → x ≡ well (straight_of x).code (straight_of x).len
 well-told (well c n) h = refl
 well-told part h = absurd (h refl)
 well-told (bad n) h = absurd (h refl)
 
-pub straight-well : (f : Form) (s : List ℕ) → ((straightOf (scan (rows_of f) s)).len ≡ 0 → ⊥)
-    → scan (rows_of f) s ≡ well (straightOf (scan (rows_of f) s)).code (straightOf (scan (rows_of f) s)).len
-straight-well f s h = well-told (scan (rows_of f) s) h
+pub straight_well : (f : Form) (s : List ℕ) → ((straight_of (scan (rows_of f) s)).len ≡ 0 → ⊥)
+    → scan (rows_of f) s ≡ well (straight_of (scan (rows_of f) s)).code (straight_of (scan (rows_of f) s)).len
+straight_well f s h = well-told (scan (rows_of f) s) h
 
 -- ---- with four bytes left
 
@@ -49,14 +49,14 @@ long-first : (f : Form) (b : ℕ) (w : List ℕ) (c : ℕ) → Codes (rows_of f)
 long-first f b w c h l = let (g, n, p, e) = (codes-pair f (b ∷ w) c).0 (h, l) in p.0
 
 -- a place with four bytes, no sequence and a first byte other than ED is bad: not partial
-pub sure-bad : (f : Form) (b : ℕ) (t : List ℕ) → (b ≡ 0xED → ⊥) → 4 ≤ length (b ∷ t) → (straightOf (scan (rows_of f) (b ∷ t))).len ≡ 0
+pub sure_bad : (f : Form) (b : ℕ) (t : List ℕ) → (b ≡ 0xED → ⊥) → 4 ≤ length (b ∷ t) → (straight_of (scan (rows_of f) (b ∷ t))).len ≡ 0
     → (n : ℕ) × (scan (rows_of f) (b ∷ t) ≡ bad n)
-sure-bad f b t ne l z = go (scan (rows_of f) (b ∷ t)) refl
+sure_bad f b t ne l z = go (scan (rows_of f) (b ∷ t)) refl
   where
     go : (x : Found) → scan (rows_of f) (b ∷ t) ≡ x → (n : ℕ) × (scan (rows_of f) (b ∷ t) ≡ bad n)
-    go (well c zero) e = absurd (codes-nil (rows_of f) c (form-regular f).is_open (scan-well (rows_of f) (b ∷ t) c zero e).0)
-    go (well c (suc m)) e = absurd (omega (arith, ap (λ (x : Found). (straightOf x).len) e))
+    go (well c zero) e = absurd (codes-nil (rows_of f) c (form_regular f).is_open (scan-well (rows_of f) (b ∷ t) c zero e).0)
+    go (well c (suc m)) e = absurd (omega (arith, ap (λ (x : Found). (straight_of x).len) e))
     go part e =
-        let (p, (u, q, (c, h))) = ((form-scans f).finds-part (b ∷ t) (omega arith)).0 e in
+        let (p, (u, q, (c, h))) = ((form_scans f).finds_part (b ∷ t) (omega arith)).0 e in
         absurd (ne (long-first f b (t ++ u) c h (omega (arith, length-append t u))))
     go (bad n) e = (n, e)

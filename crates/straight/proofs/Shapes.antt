@@ -11,16 +11,16 @@ use borrow.Author.Tests.{ltb-true, ltb-false}
 use Rattle.form.specs.Table.{◌to◌, tail, In, Codes, Scalar, plain, surro, cesu}
 use Rattle.form.specs.Scan.{Found, well, part, bad, scan}
 use Rattle.form.proofs.Scan.{scan-well, well-scan}
-use Rattle.form.proofs.Pattern.{each_row, Shape, shape, shape-pattern}
+use Rattle.form.proofs.Pattern.{each_row, Shape, shape, shape_pattern}
 use Rattle.form.proofs.Utf8.{plain-pattern, surro-pattern}
 use Rattle.form.proofs.Sequences.{scalar-outside}
-use Rattle.form.proofs.Cesu.{cesu-short, cesu-patterned}
+use Rattle.form.proofs.Cesu.{cesu-short, cesu_patterned}
 use Rattle.forms.specs.declared.Form.{Form}
 use Rattle.forms.specs.declared.Form.TheVariants.{Plain, Surro, Cesu}
 use Rattle.forms.specs.Forms.{rows_of}
-use Rattle.forms.proofs.Forms.{form-regular}
+use Rattle.forms.proofs.Forms.{form_regular}
 use Rattle.straight.specs.declared.Straight.{Straight}
-use Rattle.straight.specs.Straight.{straightOf}
+use Rattle.straight.specs.Straight.{straight_of}
 
 -- ---- the sequences of at most four bytes
 
@@ -30,39 +30,39 @@ Has Plain c = Scalar c
 Has Surro c = c ≤ 0x10FFFF
 Has Cesu c = Scalar c × (c ≤ 0xFFFF)
 
-pub shape-short : (w : List ℕ) (c : ℕ) → Shape w c → length w ≤ 4
-shape-short [] c h = absurd h
-shape-short (x ∷ []) c h = omega arith
-shape-short (x ∷ y ∷ []) c h = omega arith
-shape-short (x ∷ y ∷ z ∷ []) c h = omega arith
-shape-short (x ∷ y ∷ z ∷ v ∷ []) c h = omega arith
-shape-short (x ∷ y ∷ z ∷ v ∷ u ∷ w) c h = absurd h
+pub shape_short : (w : List ℕ) (c : ℕ) → Shape w c → length w ≤ 4
+shape_short [] c h = absurd h
+shape_short (x ∷ []) c h = omega arith
+shape_short (x ∷ y ∷ []) c h = omega arith
+shape_short (x ∷ y ∷ z ∷ []) c h = omega arith
+shape_short (x ∷ y ∷ z ∷ v ∷ []) c h = omega arith
+shape_short (x ∷ y ∷ z ∷ v ∷ u ∷ w) c h = absurd h
 
 -- in CESU-8 only the pairs are longer
-cesu-shape : (w : List ℕ) (c : ℕ) → Codes cesu w c → length w ≤ 4 → Shape w c × (c ≤ 0xFFFF)
+cesu_shape : (w : List ℕ) (c : ℕ) → Codes cesu w c → length w ≤ 4 → Shape w c × (c ≤ 0xFFFF)
 unfolding cesu
-cesu-shape =
+cesu_shape =
     each_row cesu (λ w c. length w ≤ 4 → Shape w c × (c ≤ 0xFFFF))
     (omega arith, (omega arith, (omega arith, (omega arith, (omega arith, (omega arith, (omega arith, tt)))))))
 
 -- a form's sequences of at most four bytes are the shapes of the codes that it has
-pub codes-shape : (f : Form) (w : List ℕ) (c : ℕ) → (Codes (rows_of f) w c × (length w ≤ 4)) ↔ (Shape w c × Has f c)
+pub codes_shape : (f : Form) (w : List ℕ) (c : ℕ) → (Codes (rows_of f) w c × (length w ≤ 4)) ↔ (Shape w c × Has f c)
 unfolding plain surro
-codes-shape Plain w c = (
+codes_shape Plain w c = (
   λ (h, l). (shape 0x9F (omega arith) w c h, ((plain-pattern w c).0 h).0),
-  λ (h, g). ((plain-pattern w c).1 (g, shape-pattern w c h), shape-short w c h),
+  λ (h, g). ((plain-pattern w c).1 (g, shape_pattern w c h), shape_short w c h),
 )
-codes-shape Surro w c = (
+codes_shape Surro w c = (
   λ (h, l). (shape 0xBF (omega arith) w c h, ((surro-pattern w c).0 h).0),
-  λ (h, g). ((surro-pattern w c).1 (g, shape-pattern w c h), shape-short w c h),
+  λ (h, g). ((surro-pattern w c).1 (g, shape_pattern w c h), shape_short w c h),
 )
-codes-shape Cesu w c = (
-  λ (h, l). let (p, q) = cesu-shape w c h l in (p, (((cesu-patterned w c).0 h).0, q)),
-  λ (h, g). ((cesu-patterned w c).1 (g.0, shape-pattern w c h ∙ sym (cesu-short c (omega arith))), shape-short w c h),
+codes_shape Cesu w c = (
+  λ (h, l). let (p, q) = cesu_shape w c h l in (p, (((cesu_patterned w c).0 h).0, q)),
+  λ (h, g). ((cesu_patterned w c).1 (g.0, shape_pattern w c h ∙ sym (cesu-short c (omega arith))), shape_short w c h),
 )
 
-pub scan-shape : (f : Form) (w t : List ℕ) (c : ℕ) → Shape w c → Has f c → scan (rows_of f) (w ++ t) ≡ well c (length w)
-scan-shape f w t c h g = well-scan (rows_of f) w t c (form-regular f).is-distinct ((codes-shape f w c).1 (h, g)).0
+pub scan_shape : (f : Form) (w t : List ℕ) (c : ℕ) → Shape w c → Has f c → scan (rows_of f) (w ++ t) ≡ well c (length w)
+scan_shape f w t c h g = well-scan (rows_of f) w t c (form_regular f).is_distinct ((codes_shape f w c).1 (h, g)).0
 
 -- ---- the sequences of more than four bytes: the pairs of CESU-8
 
@@ -103,14 +103,14 @@ cesu-pair [] c l h e = absurd (omega arith)
 -- a form's sequences of more than four bytes are the pairs, if it has them
 pub codes-pair : (f : Form) (w : List ℕ) (c : ℕ) → (Codes (rows_of f) w c × (4 < length w)) ↔ (Pairs f × (length w ≡ 6) × Pair w × (c ≡ pair_code w))
 unfolding plain surro
-codes-pair Plain w c = (λ (h, l). absurd (omega (arith, shape-short w c (shape 0x9F (omega arith) w c h))), λ h. absurd h.0)
-codes-pair Surro w c = (λ (h, l). absurd (omega (arith, shape-short w c (shape 0xBF (omega arith) w c h))), λ h. absurd h.0)
+codes-pair Plain w c = (λ (h, l). absurd (omega (arith, shape_short w c (shape 0x9F (omega arith) w c h))), λ h. absurd h.0)
+codes-pair Surro w c = (λ (h, l). absurd (omega (arith, shape_short w c (shape 0xBF (omega arith) w c h))), λ h. absurd h.0)
 codes-pair Cesu w c = (λ (h, l). let (n, p, e) = cesu-long w c h l in (tt, n, p, e), λ (g, n, p, e). (cesu-pair w c n p e, omega arith))
 
 -- ---- what is told where a sequence stands, and where none does
 
 abbrev Tells : Form → List ℕ → ℕ → ℕ → Type 0
-Tells f s n c = ◌≡◌ {A = Straight} (record { len = n; code = c }) (straightOf (scan (rows_of f) s))
+Tells f s n c = ◌≡◌ {A = Straight} (record { len = n; code = c }) (straight_of (scan (rows_of f) s))
 
 -- nothing where no beginning is a sequence
 lost : (f : Form) (s : List ℕ) → ((w t : List ℕ) (c : ℕ) → w ++ t ≡ s → Shape w c → Has f c → ⊥)
@@ -127,10 +127,10 @@ lost f s none unpaired = go (scan (rows_of f) s) refl
             absurd (unpaired (take m s) (drop m s) (take-append-drop m s) n q g)
         by_length false p =
             let (k, l) = scan-well (rows_of f) s c m e in
-            let (h, g) = (codes-shape f (take m s) c).0 (k, omega (arith, ltb-false 4 m p, length-take m s)) in
+            let (h, g) = (codes_shape f (take m s) c).0 (k, omega (arith, ltb-false 4 m p, length-take m s)) in
             absurd (none (take m s) (drop m s) c (take-append-drop m s) h g)
-    go part e = sym (ap straightOf e)
-    go (bad n) e = sym (ap straightOf e)
+    go part e = sym (ap straight_of e)
+    go (bad n) e = sym (ap straight_of e)
 
 -- the bytes at the front of s
 abbrev pub front1 : List ℕ → List ℕ
@@ -153,8 +153,8 @@ Not f front s = (c : ℕ) → length (front s) ≤ length s → Shape (front s) 
 abbrev Unpaired : Form → List ℕ → Type 0
 Unpaired f s = 6 ≤ length s → Pair s → Pairs f → ⊥
 
-lost-all : (f : Form) (s : List ℕ) → Not f front1 s → Not f front2 s → Not f front3 s → Not f front4 s → Unpaired f s → Tells f s 0 0
-lost-all f s n1 n2 n3 n4 n6 =
+lost_all : (f : Form) (s : List ℕ) → Not f front1 s → Not f front2 s → Not f front3 s → Not f front4 s → Unpaired f s → Tells f s 0 0
+lost_all f s n1 n2 n3 n4 n6 =
     lost f s
     (λ w t c e. let i = sym e in go w t c (subst (Not f front1) i n1) (subst (Not f front2) i n2) (subst (Not f front3) i n3) (subst (Not f front4) i n4))
     (λ w t e. six w t (subst (Unpaired f) (sym e) n6))
@@ -177,24 +177,24 @@ lost-all f s n1 n2 n3 n4 n6 =
     six [] t m n p g = omega arith
 
 -- by the range of the first byte there is one length to ask about; from E0 to EF pairs too
-pub lost-none : (f : Form) (s : List ℕ) → length s ≡ 0 → Tells f s 0 0
-lost-none f s e = lost-all f s (λ c l h g. omega arith) (λ c l h g. omega arith) (λ c l h g. omega arith) (λ c l h g. omega arith) (λ l h g. omega arith)
+pub lost_none : (f : Form) (s : List ℕ) → length s ≡ 0 → Tells f s 0 0
+lost_none f s e = lost_all f s (λ c l h g. omega arith) (λ c l h g. omega arith) (λ c l h g. omega arith) (λ c l h g. omega arith) (λ l h g. omega arith)
 
-pub lost-one : (f : Form) (s : List ℕ) → In (0x80 to 0xC1) (get_or s 0 0) → Tells f s 0 0
-lost-one f s p = lost-all f s (λ c l h g. omega arith) (λ c l h g. omega arith) (λ c l h g. omega arith) (λ c l h g. omega arith) (λ l h g. omega arith)
+pub lost_one : (f : Form) (s : List ℕ) → In (0x80 to 0xC1) (get_or s 0 0) → Tells f s 0 0
+lost_one f s p = lost_all f s (λ c l h g. omega arith) (λ c l h g. omega arith) (λ c l h g. omega arith) (λ c l h g. omega arith) (λ l h g. omega arith)
 
-pub lost-two : (f : Form) (s : List ℕ) → In (0xC2 to 0xDF) (get_or s 0 0) → Not f front2 s → Tells f s 0 0
-lost-two f s p k = lost-all f s (λ c l h g. omega arith) k (λ c l h g. omega arith) (λ c l h g. omega arith) (λ l h g. omega arith)
+pub lost_two : (f : Form) (s : List ℕ) → In (0xC2 to 0xDF) (get_or s 0 0) → Not f front2 s → Tells f s 0 0
+lost_two f s p k = lost_all f s (λ c l h g. omega arith) k (λ c l h g. omega arith) (λ c l h g. omega arith) (λ l h g. omega arith)
 
-pub lost-three : (f : Form) (s : List ℕ) → In (0xE0 to 0xEF) (get_or s 0 0) → Not f front3 s → Unpaired f s → Tells f s 0 0
-lost-three f s p k n = lost-all f s (λ c l h g. omega arith) (λ c l h g. omega arith) k (λ c l h g. omega arith) n
+pub lost_three : (f : Form) (s : List ℕ) → In (0xE0 to 0xEF) (get_or s 0 0) → Not f front3 s → Unpaired f s → Tells f s 0 0
+lost_three f s p k n = lost_all f s (λ c l h g. omega arith) (λ c l h g. omega arith) k (λ c l h g. omega arith) n
 
-pub lost-four : (f : Form) (s : List ℕ) → In (0xF0 to 0xFF) (get_or s 0 0) → Not f front4 s → Tells f s 0 0
-lost-four f s p k = lost-all f s (λ c l h g. omega arith) (λ c l h g. omega arith) (λ c l h g. omega arith) k (λ l h g. omega arith)
+pub lost_four : (f : Form) (s : List ℕ) → In (0xF0 to 0xFF) (get_or s 0 0) → Not f front4 s → Tells f s 0 0
+lost_four f s p k = lost_all f s (λ c l h g. omega arith) (λ c l h g. omega arith) (λ c l h g. omega arith) k (λ l h g. omega arith)
 
 -- a shape's code and length
 told : (f : Form) (w t : List ℕ) (c : ℕ) → Shape w c → Has f c → Tells f (w ++ t) (length w) c
-told f w t c h g = sym (ap straightOf (scan-shape f w t c h g))
+told f w t c h g = sym (ap straight_of (scan_shape f w t c h g))
 
 pub found-one : (f : Form) (s : List ℕ) (c : ℕ) → 1 ≤ length s → Shape (front1 s) c → Has f c → Tells f s 1 c
 found-one f (x ∷ t) c l h g = told f (x ∷ []) t c h g
@@ -211,18 +211,18 @@ found-three f (x ∷ y ∷ []) c l h g = absurd (omega arith)
 found-three f (x ∷ []) c l h g = absurd (omega arith)
 found-three f [] c l h g = absurd (omega arith)
 
-pub found-four : (f : Form) (s : List ℕ) (c : ℕ) → 4 ≤ length s → Shape (front4 s) c → Has f c → Tells f s 4 c
-found-four f (x ∷ y ∷ z ∷ v ∷ t) c l h g = told f (x ∷ y ∷ z ∷ v ∷ []) t c h g
-found-four f (x ∷ y ∷ z ∷ []) c l h g = absurd (omega arith)
-found-four f (x ∷ y ∷ []) c l h g = absurd (omega arith)
-found-four f (x ∷ []) c l h g = absurd (omega arith)
-found-four f [] c l h g = absurd (omega arith)
+pub found_four : (f : Form) (s : List ℕ) (c : ℕ) → 4 ≤ length s → Shape (front4 s) c → Has f c → Tells f s 4 c
+found_four f (x ∷ y ∷ z ∷ v ∷ t) c l h g = told f (x ∷ y ∷ z ∷ v ∷ []) t c h g
+found_four f (x ∷ y ∷ z ∷ []) c l h g = absurd (omega arith)
+found_four f (x ∷ y ∷ []) c l h g = absurd (omega arith)
+found_four f (x ∷ []) c l h g = absurd (omega arith)
+found_four f [] c l h g = absurd (omega arith)
 
 -- a pair's
 pub found-pair : (s : List ℕ) (c : ℕ) → 6 ≤ length s → Pair s → c ≡ pair_code s → Tells Cesu s 6 c
 found-pair (x ∷ y ∷ z ∷ v ∷ u ∷ o ∷ t) c l p e =
     let w = x ∷ y ∷ z ∷ v ∷ u ∷ o ∷ [] in
-    sym (ap straightOf (well-scan (rows_of Cesu) w t c (form-regular Cesu).is-distinct ((codes-pair Cesu w c).1 (tt, refl, p, e)).0))
+    sym (ap straight_of (well-scan (rows_of Cesu) w t c (form_regular Cesu).is_distinct ((codes-pair Cesu w c).1 (tt, refl, p, e)).0))
 found-pair (x ∷ y ∷ z ∷ v ∷ u ∷ []) c l p e = absurd (omega arith)
 found-pair (x ∷ y ∷ z ∷ v ∷ []) c l p e = absurd (omega arith)
 found-pair (x ∷ y ∷ z ∷ []) c l p e = absurd (omega arith)
@@ -233,27 +233,27 @@ found-pair [] c l p e = absurd (omega arith)
 -- ---- which codes a form has
 
 -- up to FFFF every form has the scalar values
-pub has-low : (f : Form) (c : ℕ) → c < 0xD800 → Has f c
-has-low Plain c h = inl (omega arith)
-has-low Surro c h = omega arith
-has-low Cesu c h = (inl (omega arith), omega arith)
+pub has_low : (f : Form) (c : ℕ) → c < 0xD800 → Has f c
+has_low Plain c h = inl (omega arith)
+has_low Surro c h = omega arith
+has_low Cesu c h = (inl (omega arith), omega arith)
 
-pub has-high : (f : Form) (c : ℕ) → 0xDFFF < c → c ≤ 0xFFFF → Has f c
-has-high Plain c h g = inr (inl (omega arith))
-has-high Surro c h g = omega arith
-has-high Cesu c h g = (inr (inl (omega arith)), omega arith)
+pub has_high : (f : Form) (c : ℕ) → 0xDFFF < c → c ≤ 0xFFFF → Has f c
+has_high Plain c h g = inr (inl (omega arith))
+has_high Surro c h g = omega arith
+has_high Cesu c h g = (inr (inl (omega arith)), omega arith)
 
 pub plain-beyond : (f : Form) (c : ℕ) → f ≡ Plain → 0xFFFF < c → c ≤ 0x10FFFF → Has f c
 plain-beyond f c e h g = subst (λ (x : Form). Has x c) (sym e) (inr (inl (omega arith)))
 
-pub surro-all : (f : Form) (c : ℕ) → f ≡ Surro → c ≤ 0x10FFFF → Has f c
-surro-all f c e h = subst (λ (x : Form). Has x c) (sym e) h
+pub surro_all : (f : Form) (c : ℕ) → f ≡ Surro → c ≤ 0x10FFFF → Has f c
+surro_all f c e h = subst (λ (x : Form). Has x c) (sym e) h
 
 pub plain-surrogate : (f : Form) (c : ℕ) → f ≡ Plain → In (0xD800 to 0xDFFF) c → Has f c → ⊥
 plain-surrogate f c e h g = omega (arith, scalar-outside c (subst (λ (x : Form). Has x c) e g) h.0)
 
-pub plain-unpaired : (f : Form) → f ≡ Plain → Pairs f → ⊥
-plain-unpaired f e g = subst Pairs e g
+pub plain_unpaired : (f : Form) → f ≡ Plain → Pairs f → ⊥
+plain_unpaired f e g = subst Pairs e g
 
 cesu-surrogate : (c : ℕ) → In (0xD800 to 0xDFFF) c → Has Cesu c → ⊥
 cesu-surrogate c h g = omega (arith, scalar-outside c g.0 h.0)
@@ -262,6 +262,6 @@ pub cesu-beyond : (f : Form) (c : ℕ) → f ≡ Cesu → 0xFFFF < c → Has f c
 cesu-beyond f c e h g = let i = subst (λ (x : Form). Has x c) e g in omega (arith, i.1)
 
 -- so where three bytes have a surrogate's code CESU-8 has a pair or nothing
-pub lost-pair : (s : List ℕ) (high : ℕ) → In (0xD800 to 0xDFFF) high → In (0xE0 to 0xEF) (get_or s 0 0)
+pub lost_pair : (s : List ℕ) (high : ℕ) → In (0xD800 to 0xDFFF) high → In (0xE0 to 0xEF) (get_or s 0 0)
     → high ≡ (get_or s 0 0 - 0xE0) * 0x1000 + (get_or s 1 0 - 0x80) * 0x40 + (get_or s 2 0 - 0x80) → (6 ≤ length s → Pair s → ⊥) → Tells Cesu s 0 0
-lost-pair s high p q e n = lost-three Cesu s q (λ c l h g. cesu-surrogate c (omega arith) g) (λ l h g. n l h)
+lost_pair s high p q e n = lost_three Cesu s q (λ c l h g. cesu-surrogate c (omega arith) g) (λ l h g. n l h)

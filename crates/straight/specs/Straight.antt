@@ -6,11 +6,11 @@ use Rattle.forms.specs.Forms.{rows_of}
 use Rattle.straight.specs.declared.Straight.{Straight}
 
 -- the length and the code of a well-formed sequence, and zeros for anything else
-abbrev pub straightOf : Found → Straight
-straightOf (well c n) = record { len = n; code = c }
-straightOf part = record { len = 0; code = 0 }
-straightOf (bad n) = record { len = 0; code = 0 }
+abbrev pub straight_of : Found → Straight
+straight_of (well c n) = record { len = n; code = c }
+straight_of part = record { len = 0; code = 0 }
+straight_of (bad n) = record { len = 0; code = 0 }
 
 -- it is the same whatever the form
 abbrev pub InEvery : Straight → List ℕ → Type 0
-InEvery r s = (f : Form) → r ≡ straightOf (scan (rows_of f) s)
+InEvery r s = (f : Form) → r ≡ straight_of (scan (rows_of f) s)

@@ -1,9 +1,11 @@
 // The sequence at the front of a slice, in a straight line. Each byte is read after the tests before it, so that no test is joined to another.
+#![tactic(auto)]
+
 ghost use Rattle.std.specs.Prelude.{◌≡◌, ◌+◌, ◌-◌, ◌*◌, get_or};
 ghost use Rattle.form.specs.Table.{◌to◌, tail, cesu, In};
 ghost use Rattle.form.specs.Scan.{scan};
 ghost use Rattle.forms.specs.Forms.{rows_of};
-ghost use Rattle.straight.specs.Straight.{straightOf, InEvery};
+ghost use Rattle.straight.specs.Straight.{straight_of, InEvery};
 
 use forms::Form;
 
@@ -75,7 +77,7 @@ fn two(s: &[u8]) -> Straight
 fn pair(s: &[u8], high: u32) -> Straight
     requires { In (0xD800 to 0xDFFF) high × In (0xE0 to 0xEF) (get_or s.now 0 0) × In tail (get_or s.now 1 0) × In tail (get_or s.now 2 0)
         × (high ≡ (get_or s.now 0 0 - 0xE0) * 0x1000 + (get_or s.now 1 0 - 0x80) * 0x40 + (get_or s.now 2 0 - 0x80)) }
-    ensures { result ≡ straightOf (scan cesu s.now) }
+    ensures { result ≡ straight_of (scan cesu s.now) }
 {
     if 0xDBFF < high {
         return found(0, 0);
@@ -107,7 +109,7 @@ fn pair(s: &[u8], high: u32) -> Straight
 // A sequence that E0..EF begins.
 fn three(form: Form, s: &[u8]) -> Straight
     requires { In (0xE0 to 0xEF) (get_or s.now 0 0) }
-    ensures { result ≡ straightOf (scan (rows_of form) s.now) }
+    ensures { result ≡ straight_of (scan (rows_of form) s.now) }
 {
     if s.len() < 3 {
         return found(0, 0);
@@ -146,7 +148,7 @@ fn three(form: Form, s: &[u8]) -> Straight
 // A sequence that F0..FF begins.
 fn four(form: Form, s: &[u8]) -> Straight
     requires { In (0xF0 to 0xFF) (get_or s.now 0 0) }
-    ensures { result ≡ straightOf (scan (rows_of form) s.now) }
+    ensures { result ≡ straight_of (scan (rows_of form) s.now) }
 {
     if s.len() < 4 {
         return found(0, 0);
@@ -188,7 +190,7 @@ fn four(form: Form, s: &[u8]) -> Straight
 
 // The well-formed sequence at the front of s. Zeros for anything else: no bytes, a sequence that the end of s cuts, bad bytes.
 pub fn straight_of(form: Form, s: &[u8]) -> Straight
-    ensures { result ≡ straightOf (scan (rows_of form) s.now) }
+    ensures { result ≡ straight_of (scan (rows_of form) s.now) }
 {
     if s.len() == 0 {
         return found(0, 0);

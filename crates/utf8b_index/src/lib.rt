@@ -1,5 +1,7 @@
 // The entries for C, for the index into a log: a number is the answer, and results go where the caller says; after another number than 0
 // nothing is written.
+#![tactic(auto)]
+
 ghost use Rattle.std.specs.Prelude.{◌≡◌, length};
 ghost use Rattle.form.specs.Table.{plain};
 ghost use Rattle.form.specs.Text.{items};

@@ -1,4 +1,6 @@
 // The entry for C that tells why bytes are bad.
+#![tactic(auto)]
+
 ghost use Rattle.std.specs.Prelude.{◌≡◌};
 ghost use Rattle.reason.specs.Reason.{number, reason};
 

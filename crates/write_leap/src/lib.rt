@@ -1,4 +1,6 @@
 // The writer's leap over 32-bit codes: codes whose bytes are plain to see, as fast as they come, in front of the writer that takes every code.
+#![tactic(auto)]
+
 ghost use Rattle.std.specs.Prelude.{◌≡◌, false, ◌++◌, ℕ, ◌+◌, ◌%◌, ◌≤◌, ◌<◌, min, length, take, drop};
 ghost use Rattle.form.specs.Table.{Escape};
 ghost use Rattle.form.specs.Pattern.{pattern};

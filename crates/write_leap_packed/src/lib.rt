@@ -1,7 +1,9 @@
 // The writer's leap over packed codes: codes whose bytes are plain to see, as fast as they come, in front of the writer that takes every code.
+#![tactic(auto)]
+
 ghost use Rattle.std.specs.Prelude.{◌≡◌, false, cond, ◌++◌, ℕ, ◌+◌, ◌*◌, ◌%◌, ◌≤◌, ◌<◌, min, length, take, drop};
 ghost use Rattle.form.specs.Table.{Escape};
-ghost use Rattle.form.specs.Pattern.{pattern, cesu-pattern};
+ghost use Rattle.form.specs.Pattern.{pattern, cesu_pattern};
 ghost use Rattle.form.specs.Text.{sequence};
 ghost use Rattle.forms.specs.Forms.{rows_of};
 ghost use Rattle.quads.specs.Bytes.{codes_of, quad};
@@ -74,7 +76,7 @@ fn put4(dst: &mut [u8], n: usize, c: u32)
 // A pair of surrogates: the marks ED, and the upper and the lower ten bits of what is above FFFF.
 fn put6(dst: &mut [u8], n: usize, c: u32)
     requires { (0x10000 ≤ c) × (c ≤ 0x10FFFF) × (n + 6 ≤ length dst.old) }
-    ensures { dst.new ≡ take n dst.old ++ cesu-pattern c ++ drop (n + 6) dst.old }
+    ensures { dst.new ≡ take n dst.old ++ cesu_pattern c ++ drop (n + 6) dst.old }
 {
     let upper = (c - 0x10000) / 0x400;
     let lower = (c - 0x10000) % 0x400;
@@ -208,7 +210,7 @@ fn careful(m: Flags) -> bool
 
 // The form writes a code above FFFF as a pair of surrogates.
 fn has_pairs(form: Form) -> bool
-    ensures { (c : ℕ) → 0xFFFF < c → c ≤ 0x10FFFF → sequence (rows_of form) c ≡ cond result (cesu-pattern c) (pattern c) }
+    ensures { (c : ℕ) → 0xFFFF < c → c ≤ 0x10FFFF → sequence (rows_of form) c ≡ cond result (cesu_pattern c) (pattern c) }
 {
     match form {
         Form::Plain => false,

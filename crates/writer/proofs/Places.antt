@@ -12,9 +12,9 @@ use Rattle.form.specs.Table.{Form}
 use Rattle.form.proofs.Writers.{Writer}
 use Rattle.sequence.specs.declared.Coded.{Coded}
 use Rattle.writer.specs.declared.Encoded.{Encoded}
-use Rattle.sequence.specs.Leaf.{codedOf}
+use Rattle.sequence.specs.Leaf.{coded_of}
 use Rattle.writings.specs.Writing.{bytes, Writing, stopped, after, writing}
-use Rattle.writer.specs.Encoded.{encodedOf}
+use Rattle.writer.specs.Encoded.{encoded_of}
 use Rattle.writings.proofs.Given.{given}
 use Rattle.writer.proofs.Offered.{Offered, none-refused, some-offered}
 use Rattle.writings.specs.Come.{follow}
@@ -36,10 +36,10 @@ reached-start F m l d =
 
 module _ {F : Form} {m : Flags} {l d₀ d : List ℕ} {at n : ℕ} (r : Reached F m l d₀ d at n) where
   -- at the end of the codes
-  pub reached-end : at ≡ length l → writing F m (length d₀ - n) (drop at l) ≡ stopped 0
-  reached-end e = rw (e, drop-length l) refl
+  pub reached_end : at ≡ length l → writing F m (length d₀ - n) (drop at l) ≡ stopped 0
+  reached_end e = rw (e, drop-length l) refl
 
-  module _ (six : Writer F 6) (w : Coded) (h : at < length l) (e : w ≡ codedOf (given F m (get_or l at 0))) where
+  module _ (six : Writer F 6) (w : Coded) (h : at < length l) (e : w ≡ coded_of (given F m (get_or l at 0))) where
     here : drop at l ≡ get_or l at 0 ∷ drop (at + 1) l
     here = rw (add-one at) (drop-cons l at 0 h)
 
@@ -93,12 +93,12 @@ module _ {F : Form} {m : Flags} {l d₀ d : List ℕ} {at n : ℕ} (r : Reached 
 -- ---- the answer and the buffer, as promised
 
 abbrev pub Answered : Writing → List ℕ → List ℕ → Encoded → Type 0
-Answered W d₀ d r = (r ≡ encodedOf W) × (d ≡ W.written ++ drop r.produced d₀)
+Answered W d₀ d r = (r ≡ encoded_of W) × (d ≡ W.written ++ drop r.produced d₀)
 
 -- where the writing stops with the number q at the place that the loop has come to
 pub answered : {F : Form} {m : Flags} {l d₀ d : List ℕ} {at n : ℕ} (q : ℕ) → (r : Reached F m l d₀ d at n)
     → writing F m (length d₀ - n) (drop at l) ≡ stopped q → Answered (writing F m (length d₀) l) d₀ d (record { number = q; consumed = at; produced = n })
-unfolding encodedOf follow stopped
+unfolding encoded_of follow stopped
 answered {F} {m} {l} {d₀} {d} {at} {n} q r e =
     rw (r.whole ∙ ap (follow (take n d) at) e, append-nil, length-take-le n d (omega (arith, r.same, r.room)), add-zero, ← r.tail)
     (refl, sym (take-append-drop n d))

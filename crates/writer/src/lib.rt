@@ -1,10 +1,12 @@
 // The loop of the whole-buffer writer: codes to bytes, for any form and flags.
+#![tactic(auto)]
+
 ghost use Rattle.std.specs.Prelude.{◌≡◌, cond, [], ◌++◌, ◌+◌, ◌≤◌, length, drop};
 ghost use Rattle.std.proofs.Math.Seq.{paste};
 ghost use Rattle.forms.specs.Forms.{rows_of};
-ghost use Rattle.sequence.specs.Leaf.{codedOf};
+ghost use Rattle.sequence.specs.Leaf.{coded_of};
 ghost use Rattle.writings.specs.Writing.{refuses, bytes, writing};
-ghost use Rattle.writer.specs.Encoded.{encodedOf};
+ghost use Rattle.writer.specs.Encoded.{encoded_of};
 
 use flags::Flags;
 use forms::Form;
@@ -13,7 +15,7 @@ use sequence::Coded;
 // The bytes that the writer writes for a code, or none where it refuses the code. Most codes are below 80, and above FFFF each form has its own
 // sequences. With SURRO no code is an escape. STRICT alone refuses the surrogates, which plain UTF-8 does not have. Without either an escape is its byte.
 fn written(form: Form, m: Flags, c: u32) -> Coded
-    ensures { result ≡ codedOf (cond (refuses m c) [] (bytes (rows_of form) m c)) }
+    ensures { result ≡ coded_of (cond (refuses m c) [] (bytes (rows_of form) m c)) }
 {
     if c < 0x80 {
         return Coded {
@@ -77,7 +79,7 @@ pub struct Encoded {
 
 // The writer, for any form and flags. The stops at each code, in document 01's order: no codes left, code refused, no room for all its bytes.
 pub fn write_as(form: Form, m: Flags, codes: &[u32], dst: &mut [u8]) -> Encoded
-    ensures answer { result ≡ encodedOf (writing (rows_of form) m (length dst.old) codes.now) }
+    ensures answer { result ≡ encoded_of (writing (rows_of form) m (length dst.old) codes.now) }
     ensures output { dst.new ≡ (writing (rows_of form) m (length dst.old) codes.now).written ++ drop result.produced dst.old }
 {
     let mut at: usize = 0;

@@ -56,8 +56,8 @@ pub record Leaping (F : Form) (m : Flags) (l d₀ d : List ℕ) (at₀ n₀ at n
   pub onward : Onward F m l d₀ d at₀ n₀ at n
   pub room : n ≤ length d
 
-pub leaping-start : (F : Form) (m : Flags) (l d : List ℕ) (at n : ℕ) → n ≤ length d → Leaping F m l d d at n at n
-leaping-start F m l d at n h = record { onward = onward-start F m l d at n; room = h }
+pub leaping_start : (F : Form) (m : Flags) (l d : List ℕ) (at n : ℕ) → n ≤ length d → Leaping F m l d d at n at n
+leaping_start F m l d at n h = record { onward = onward-start F m l d at n; room = h }
 
 module _ {F : Form} {m : Flags} {l d₀ d : List ℕ} {at₀ n₀ at n : ℕ} (r : Leaping F m l d₀ d at₀ n₀ at n) where
   -- at a code

@@ -16,14 +16,14 @@ use Rattle.flags.specs.declared.Flags.{Flags}
 use Rattle.form.specs.Table.{◌to◌, Form, In, Escape}
 use Rattle.form.specs.Pattern.{pattern}
 use Rattle.form.specs.Text.{sequence}
-use Rattle.form.proofs.Writers.{Writer, own-rows}
+use Rattle.form.proofs.Writers.{Writer, own_rows}
 use Rattle.numbers.proofs.Filled.{filled_none, filled-set}
 use Rattle.writings.specs.Writing.{refuses, bytes}
 use Rattle.writings.specs.Come.{Writes, Onward}
 use Rattle.writings.specs.Singled.{Ascii, Single, lows, Singled}
-use Rattle.writings.proofs.Given.{not-surrogate, not-refused, bytes-escape, bytes-other}
+use Rattle.writings.proofs.Given.{not_surrogate, not_refused, bytes-escape, bytes-other}
 use Rattle.writings.proofs.Writes.{writes-none, writes_one, writes-trans}
-use Rattle.writings.proofs.Come.{put-lent, onward-more}
+use Rattle.writings.proofs.Come.{put_lent, onward-more}
 
 -- ---- the pattern of a code
 
@@ -39,9 +39,9 @@ pub pattern-three : (c : ℕ) → 0x800 ≤ c → c < 0x10000 → pattern c ≡ 
 unfolding pattern
 pattern-three c l h = rw (le-ltb c 0x80 (omega arith), le-ltb c 0x800 l, lt-ltb c 0x10000 h) refl
 
-pub pattern-four : (c : ℕ) → 0x10000 ≤ c → pattern c ≡ (0xF0 + c / 0x40000) ∷ (0x80 + c / 0x1000 % 0x40) ∷ (0x80 + c / 0x40 % 0x40) ∷ (0x80 + c % 0x40) ∷ []
+pub pattern_four : (c : ℕ) → 0x10000 ≤ c → pattern c ≡ (0xF0 + c / 0x40000) ∷ (0x80 + c / 0x1000 % 0x40) ∷ (0x80 + c / 0x40 % 0x40) ∷ (0x80 + c % 0x40) ∷ []
 unfolding pattern
-pattern-four c l = rw (le-ltb c 0x80 (omega arith), le-ltb c 0x800 (omega arith), le-ltb c 0x10000 l) refl
+pattern_four c l = rw (le-ltb c 0x80 (omega arith), le-ltb c 0x800 (omega arith), le-ltb c 0x10000 l) refl
 
 -- ---- stores, one behind another, that are one write of a code's bytes
 
@@ -64,7 +64,7 @@ module _ (d : List ℕ) (n x : ℕ) where
       let f : n + 1 ≡ suc n = omega arith in
       let j : n + 2 ≡ suc (suc n) = omega arith in
       let k : n + 3 ≡ suc (suc (suc n)) = omega arith in
-      rw (f, j, k, e, i, o, pattern-four x l) (sets-eq ((0xF0 + x / 0x40000) ∷ (0x80 + x / 0x1000 % 0x40) ∷ (0x80 + x / 0x40 % 0x40) ∷ (0x80 + x % 0x40) ∷ []) d n g)
+      rw (f, j, k, e, i, o, pattern_four x l) (sets-eq ((0xF0 + x / 0x40000) ∷ (0x80 + x / 0x1000 % 0x40) ∷ (0x80 + x / 0x40 % 0x40) ∷ (0x80 + x % 0x40) ∷ []) d n g)
 
 -- ---- one code
 
@@ -74,11 +74,11 @@ module _ (F : Form) {n : ℕ} (W : Writer F n) (m : Flags) (c : ℕ) (l : List �
 
   -- up to FFFF, but for the surrogates
   pub writes_short : c < 0x10000 → (In (0xD800 to 0xDFFF) c → ⊥) → Writes F m (c ∷ l) (pattern c) 1
-  writes_short h g = is-written (pattern c) (not-surrogate m c (omega arith) g) (bytes-other F m c (λ u. g (omega arith)) ∙ W.low c h)
+  writes_short h g = is-written (pattern c) (not_surrogate m c (omega arith) g) (bytes-other F m c (λ u. g (omega arith)) ∙ W.low c h)
 
   -- and above
   pub writes-long : 0xFFFF < c → c ≤ 0x10FFFF → (v : List ℕ) → sequence F c ≡ v → Writes F m (c ∷ l) v 1
-  writes-long g h v e = is-written v (not-surrogate m c h (λ u. omega arith)) (bytes-other F m c (λ u. omega arith) ∙ own-rows F c (omega arith) ∙ e)
+  writes-long g h v e = is-written v (not_surrogate m c h (λ u. omega arith)) (bytes-other F m c (λ u. omega arith) ∙ own_rows F c (omega arith) ∙ e)
 
   pub writes-ascii : Ascii c → Writes F m (c ∷ l) (c % 256 ∷ []) 1
   writes-ascii h =
@@ -89,7 +89,7 @@ module _ (F : Form) {n : ℕ} (W : Writer F n) (m : Flags) (c : ℕ) (l : List �
   pub writes-escape : m.surro ≡ false → m.strict ≡ false → Escape c → Writes F m (c ∷ l) (c % 256 ∷ []) 1
   writes-escape s t h =
       let e : c - 0xDC00 ≡ c % 256 = omega arith in
-      is-written (c % 256 ∷ []) (not-refused m c t (omega arith)) (bytes-escape F m c s h ∙ ap (λ (x : ℕ). x ∷ []) e)
+      is-written (c % 256 ∷ []) (not_refused m c t (omega arith)) (bytes-escape F m c s h ∙ ap (λ (x : ℕ). x ∷ []) e)
 
   pub writes-single : m.surro ≡ false → m.strict ≡ false → Single c → Writes F m (c ∷ l) (c % 256 ∷ []) 1
   writes-single s t = ⊎_elim writes-ascii (writes-escape s t)
@@ -141,4 +141,4 @@ module _ (F : Form) (m : Flags) (P : ℕ → Type 0) (one : (c : ℕ) (l : List 
       let v = lows (take k t) in
       let q : length v ≡ k = lows-length k t s.within in
       let f : n + length v ≤ length d = omega (arith, s.filled.fits, ap length (part_to_end d n), length-drop n d) in
-      rw q at (onward-more o (subst (λ (x : List ℕ). Writes F m x v k) e (writes-lows k t s.within s.each)) (put-lent d n v p f s.filled.front))
+      rw q at (onward-more o (subst (λ (x : List ℕ). Writes F m x v k) e (writes-lows k t s.within s.each)) (put_lent d n v p f s.filled.front))

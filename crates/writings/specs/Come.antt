@@ -23,7 +23,7 @@ pub record Come (F : Form) (m : Flags) (l d₀ d : List ℕ) (at n : ℕ) : Type
 
 -- from one place to another, with d₀ become d: whatever was reached stays reached
 pub record Onward (F : Form) (m : Flags) (l d₀ d : List ℕ) (at₀ n₀ at n : ℕ) : Type 0 where
-  pub codes-forth : at₀ ≤ at
-  pub bytes-forth : n₀ ≤ n
+  pub codes_forth : at₀ ≤ at
+  pub bytes_forth : n₀ ≤ n
   pub same : length d ≡ length d₀
   pub keeps : (z : List ℕ) → Come F m l z d₀ at₀ n₀ → Come F m l z d at n

@@ -11,7 +11,7 @@ use Rattle.form.proofs.Subparts.{bad-short}
 use Rattle.front.specs.declared.Front.{Front}
 use Rattle.front.specs.declared.Front.TheVariants as Variants
 use Rattle.forms.specs.Forms.{rows_of}
-use Rattle.forms.proofs.Forms.{form-scans}
+use Rattle.forms.proofs.Forms.{form_scans}
 use Rattle.front.proofs.Told.{Finds, told-finds}
 use Rattle.state.specs.declared.Record.{Record}
 use Rattle.advance.specs.declared.Window.{Window}
@@ -56,63 +56,63 @@ finds q x e =
     let g = gathered q in
     let s = start g in
     let w : shown g ≡ together s =
-    ap (λ (w : Window). scan (rows_of s.args.form) (take w.count w.bytes)) g.gather.ensures ∙ seen (form-scans s.args.form) (places s) s.pre (input s) in
+    ap (λ (w : Window). scan (rows_of s.args.form) (take w.count w.bytes)) g.gather.ensures ∙ seen (form_scans s.args.form) (places s) s.pre (input s) in
     subst (Finds x) w (subst (λ (f : Front). Finds f (shown g)) e (told-finds q.front_of.result (shown g) _ q.front_of.ensures))
 
 -- the result a is b
 is_read : (s : tie.Start) (a b : Advanced) → a ≡ b → Advances (rows_of s.args.form) s.args.s (input s) b → Advances (rows_of s.args.form) s.args.s (input s) a
 is_read s a b e h = subst (Advances (rows_of s.args.form) s.args.s (input s)) (sym e) h
 
-abbrev with-next : Reading → Record → Advanced
-with-next r s = record { reading = r; next = s }
+abbrev with_next : Reading → Record → Advanced
+with_next r s = record { reading = r; next = s }
 
 returns : tie.Need-returns
 returns c =
     let q = c.before.before.before.before.before in
     let s = start (gathered q) in
-    is_read s _ _ (c.done.ensures ∙ ap (with-next (Done Incomplete)) c.before.start.ensures)
-    (reads_none (form-scans s.args.form) (places s) s.pre (input s) (finds q _ c.before.before.before.enum_told.given.1) (sym (count (gathered q)) ∙ c.before.before.if1.true))
+    is_read s _ _ (c.done.ensures ∙ ap (with_next (Done Incomplete)) c.before.start.ensures)
+    (reads_none (form_scans s.args.form) (places s) s.pre (input s) (finds q _ c.before.before.before.enum_told.given.1) (sym (count (gathered q)) ∙ c.before.before.if1.true))
 
 returns-2 : tie.Need-returns-2
 returns-2 c =
     let q = c.before.before.before.before.before.before in
     let s = start (gathered q) in
-    is_read s _ _ (c.done4.ensures ∙ ap (with-next (Done Null)) c.before.start3.ensures)
-    (reads-null (form-scans s.args.form) (places s) s.pre (input s) _ _ (finds q _ c.before.before.before.before.c.given.1) c.before.before.if2.true)
+    is_read s _ _ (c.done4.ensures ∙ ap (with_next (Done Null)) c.before.start3.ensures)
+    (reads-null (form_scans s.args.form) (places s) s.pre (input s) _ _ (finds q _ c.before.before.before.before.c.given.1) c.before.before.if2.true)
 
 sub-t29 : tie.Need-overflow-sub-t29
 sub-t29 c =
     let q = c.before.before.before.before in
     let s = start (gathered q) in
-    omega (arith, code-after (form-scans s.args.form) (places s) s.pre (input s) _ _ (finds q _ c.before.before.c.given.1))
+    omega (arith, code-after (form_scans s.args.form) (places s) s.pre (input s) _ _ (finds q _ c.before.before.c.given.1))
 
 returns-3 : tie.Need-returns-3
 returns-3 c =
     let q = c.before.before.before.before in
     let g = gathered q in
     let s = start g in
-    is_read s _ _ (c.done2.ensures ∙ ap (λ (w : Window). with-next (Done Incomplete) (record { kind = 1; count = w.count; bytes = w.bytes })) g.gather.ensures)
-    (reads-some (form-scans s.args.form) (places s) s.pre (input s) (finds q _ c.before.before.enum_told.given.1) (λ e. c.before.if1.false (count g ∙ e)))
+    is_read s _ _ (c.done2.ensures ∙ ap (λ (w : Window). with_next (Done Incomplete) (record { kind = 1; count = w.count; bytes = w.bytes })) g.gather.ensures)
+    (reads-some (form_scans s.args.form) (places s) s.pre (input s) (finds q _ c.before.before.enum_told.given.1) (λ e. c.before.if1.false (count g ∙ e)))
 
 subpart-few : (q : tie.After-front-of) (n : ℕ) → q.front_of.result ≡ Variants.Bad n → n < 6
 subpart-few q n e =
     let s = start (gathered q) in
     let (k, f, i) = finds q (Variants.Bad n) e in
-    rw i (bad-short (form-scans s.args.form) (omega arith) (used s.args.s ++ input s) k f)
+    rw i (bad-short (form_scans s.args.form) (omega arith) (used s.args.s ++ input s) k f)
 
 returns-4 : tie.Need-returns-4
 returns-4 c =
     let q = c.before.before.before.before.before in
     let s = start (gathered q) in
     let (k, e, i) = finds q _ c.before.before.before.len.given.1 in
-    is_read s _ _ (c.done3.ensures ∙ ap (with-next (Done (Bad s.args.s.count _))) c.before.start2.ensures)
-    (rw i (reads-bad (form-scans s.args.form) (places s) s.pre (input s) k e))
+    is_read s _ _ (c.done3.ensures ∙ ap (with_next (Done (Bad s.args.s.count _))) c.before.start2.ensures)
+    (rw i (reads-bad (form_scans s.args.form) (places s) s.pre (input s) k e))
 
 returns-5 : tie.Need-returns-5
 returns-5 c =
     let q = c.before.before.before.before.before in
     let s = start (gathered q) in
-    let (k, e) = reads-code (form-scans s.args.form) (places s) s.pre (input s) _ _ (finds q _ c.before.before.before.c.given.1) c.before.if2.false in
+    let (k, e) = reads-code (form_scans s.args.form) (places s) s.pre (input s) _ _ (finds q _ c.before.before.before.c.given.1) c.before.if2.false in
     (k, c.start4.ensures)
 
 pub read_spec : {M : Type 1} → statement M

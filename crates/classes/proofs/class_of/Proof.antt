@@ -3,15 +3,15 @@ use mathlib.Core.Path.{ap, ◌∙◌}
 use Prim.Native.Nat.{ℕ, ◌%◌}
 use native.Mathlib.Omega.{arith}
 use borrow.Author.Rules.{rules}
-use Rattle.classes.specs.Class.{digitOf}
-use Rattle.classes.proofs.Chart.{chart-class}
+use Rattle.classes.specs.Class.{digit_of}
+use Rattle.classes.proofs.Chart.{chart_class}
 use Rattle.classes.proofs.class_of.Statement.{statement}
 use Rattle.classes.proofs.class_of.Tie as tie
 
 returns : tie.Need-returns
 returns c =
     let b = c.before.before.args.b in
-    c.digit.ensures ∙ ap (λ (n : ℕ). digitOf n (b % 16)) c.before.classes.ensures ∙ chart-class b (search rules)
+    c.digit.ensures ∙ ap (λ (n : ℕ). digit_of n (b % 16)) c.before.classes.ensures ∙ chart_class b (search rules)
 
 pub class-of-spec : {M : Type 1} → statement M
 class-of-spec = tie.close (tie.spec (λ c κs. search rules) (λ c. search rules) (λ c κs. search rules) returns)

@@ -1,73 +1,73 @@
 -- Each row is computed at its high digit. Assumes nothing.
 use native.Mathlib.Omega.{arith}
-use Rattle.classes.specs.Class.{ranges, class_of, classesOf}
-use Rattle.classes.proofs.Rows.{row-computed, none_below}
+use Rattle.classes.specs.Class.{ranges, class_of, classes_of}
+use Rattle.classes.proofs.Rows.{row_computed, none_below}
 use Rattle.classes.proofs.classes.Statement.{statement}
 use Rattle.classes.proofs.classes.Tie as tie
 
 returns : tie.Need-returns
-unfolding ranges class_of classesOf
-returns c = row-computed classesOf 0x0 _ _ c.match.keys1 tt
+unfolding ranges class_of classes_of
+returns c = row_computed classes_of 0x0 _ _ c.match.keys1 tt
 
 returns-2 : tie.Need-returns-2
-unfolding ranges class_of classesOf
-returns-2 c = row-computed classesOf 0x1 _ _ c.match.keys2 tt
+unfolding ranges class_of classes_of
+returns-2 c = row_computed classes_of 0x1 _ _ c.match.keys2 tt
 
 returns-3 : tie.Need-returns-3
-unfolding ranges class_of classesOf
-returns-3 c = row-computed classesOf 0x2 _ _ c.match.keys3 tt
+unfolding ranges class_of classes_of
+returns-3 c = row_computed classes_of 0x2 _ _ c.match.keys3 tt
 
 returns-4 : tie.Need-returns-4
-unfolding ranges class_of classesOf
-returns-4 c = row-computed classesOf 0x3 _ _ c.match.keys4 tt
+unfolding ranges class_of classes_of
+returns-4 c = row_computed classes_of 0x3 _ _ c.match.keys4 tt
 
 returns-5 : tie.Need-returns-5
-unfolding ranges class_of classesOf
-returns-5 c = row-computed classesOf 0x4 _ _ c.match.keys5 tt
+unfolding ranges class_of classes_of
+returns-5 c = row_computed classes_of 0x4 _ _ c.match.keys5 tt
 
 returns-6 : tie.Need-returns-6
-unfolding ranges class_of classesOf
-returns-6 c = row-computed classesOf 0x5 _ _ c.match.keys6 tt
+unfolding ranges class_of classes_of
+returns-6 c = row_computed classes_of 0x5 _ _ c.match.keys6 tt
 
 returns-7 : tie.Need-returns-7
-unfolding ranges class_of classesOf
-returns-7 c = row-computed classesOf 0x6 _ _ c.match.keys7 tt
+unfolding ranges class_of classes_of
+returns-7 c = row_computed classes_of 0x6 _ _ c.match.keys7 tt
 
 returns-8 : tie.Need-returns-8
-unfolding ranges class_of classesOf
-returns-8 c = row-computed classesOf 0x7 _ _ c.match.keys8 tt
+unfolding ranges class_of classes_of
+returns-8 c = row_computed classes_of 0x7 _ _ c.match.keys8 tt
 
 returns-9 : tie.Need-returns-9
-unfolding ranges class_of classesOf
-returns-9 c = row-computed classesOf 0x8 _ _ c.match.keys9 tt
+unfolding ranges class_of classes_of
+returns-9 c = row_computed classes_of 0x8 _ _ c.match.keys9 tt
 
 returns-10 : tie.Need-returns-10
-unfolding ranges class_of classesOf
-returns-10 c = row-computed classesOf 0x9 _ _ c.match.keys10 tt
+unfolding ranges class_of classes_of
+returns-10 c = row_computed classes_of 0x9 _ _ c.match.keys10 tt
 
 returns-11 : tie.Need-returns-11
-unfolding ranges class_of classesOf
-returns-11 c = row-computed classesOf 0xA _ _ c.match.keys11 tt
+unfolding ranges class_of classes_of
+returns-11 c = row_computed classes_of 0xA _ _ c.match.keys11 tt
 
 returns-12 : tie.Need-returns-12
-unfolding ranges class_of classesOf
-returns-12 c = row-computed classesOf 0xB _ _ c.match.keys12 tt
+unfolding ranges class_of classes_of
+returns-12 c = row_computed classes_of 0xB _ _ c.match.keys12 tt
 
 returns-13 : tie.Need-returns-13
-unfolding ranges class_of classesOf
-returns-13 c = row-computed classesOf 0xC _ _ c.match.keys13 tt
+unfolding ranges class_of classes_of
+returns-13 c = row_computed classes_of 0xC _ _ c.match.keys13 tt
 
 returns-14 : tie.Need-returns-14
-unfolding ranges class_of classesOf
-returns-14 c = row-computed classesOf 0xD _ _ c.match.keys14 tt
+unfolding ranges class_of classes_of
+returns-14 c = row_computed classes_of 0xD _ _ c.match.keys14 tt
 
 returns-15 : tie.Need-returns-15
-unfolding ranges class_of classesOf
-returns-15 c = row-computed classesOf 0xE _ _ c.match.keys15 tt
+unfolding ranges class_of classes_of
+returns-15 c = row_computed classes_of 0xE _ _ c.match.keys15 tt
 
 returns-16 : tie.Need-returns-16
-unfolding ranges class_of classesOf
-returns-16 c = row-computed classesOf 0xF c.before.args.high _ (omega (arith, c.before.requires, none_below 15 _ c.match.rest)) tt
+unfolding ranges class_of classes_of
+returns-16 c = row_computed classes_of 0xF c.before.args.high _ (omega (arith, c.before.requires, none_below 15 _ c.match.rest)) tt
 
 pub classes-spec : {M : Type 1} → statement M
 classes-spec =

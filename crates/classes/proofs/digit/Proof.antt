@@ -4,16 +4,16 @@ use Prim.Native.Nat.{◌<◌}
 use native.Mathlib.Omega.{arith}
 use borrow.Author.Rules.{rules}
 use borrow.Author.Tests.{lt-ltb, le-ltb}
-use Rattle.classes.specs.Class.{digitOf}
+use Rattle.classes.specs.Class.{digit_of}
 use Rattle.classes.proofs.digit.Statement.{statement}
 use Rattle.classes.proofs.digit.Tie as tie
 
 returns : tie.Need-returns
-unfolding digitOf
+unfolding digit_of
 returns c = search (lt-ltb, le-ltb)
 
 returns-2 : tie.Need-returns-2
-unfolding digitOf
+unfolding digit_of
 returns-2 c = let p = c.before.args.place in let h : p < 16 = omega arith in rw (lt-ltb p 16 h) refl
 
 pub digit-spec : {M : Type 1} → statement M

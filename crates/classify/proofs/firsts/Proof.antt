@@ -4,22 +4,22 @@ use borrow.Author.Rules.{rules}
 use Rattle.form.specs.Table.{plain, surro, cesu}
 use Rattle.forms.specs.Forms.{rows_of}
 use Rattle.classes.specs.Class.{ranges}
-use Rattle.classes.proofs.Rows.{row-computed}
-use Rattle.classify.specs.Stage.{stages, stageOf, nextsOf}
+use Rattle.classes.proofs.Rows.{row_computed}
+use Rattle.classify.specs.Stage.{stages, stage_of, nexts_of}
 use Rattle.classify.proofs.firsts.Statement.{statement}
 use Rattle.classify.proofs.firsts.Tie as tie
 
 returns : tie.Need-returns
-unfolding plain ranges stages stageOf nextsOf
-returns c = row-computed nextsOf plain _ _ (ap rows_of c.enum_told.given.1) tt
+unfolding plain ranges stages stage_of nexts_of
+returns c = row_computed nexts_of plain _ _ (ap rows_of c.enum_told.given.1) tt
 
 returns-2 : tie.Need-returns-2
-unfolding surro ranges stages stageOf nextsOf
-returns-2 c = row-computed nextsOf surro _ _ (ap rows_of c.enum-told2.given.1) tt
+unfolding surro ranges stages stage_of nexts_of
+returns-2 c = row_computed nexts_of surro _ _ (ap rows_of c.enum-told2.given.1) tt
 
 returns-3 : tie.Need-returns-3
-unfolding cesu ranges stages stageOf nextsOf
-returns-3 c = row-computed nextsOf cesu _ _ (ap rows_of c.enum-told3.given.1) tt
+unfolding cesu ranges stages stage_of nexts_of
+returns-3 c = row_computed nexts_of cesu _ _ (ap rows_of c.enum-told3.given.1) tt
 
 pub firsts-spec : {M : Type 1} → statement M
 firsts-spec = tie.close (tie.spec (λ c. search rules) (λ c. search rules) (λ c. search rules) returns returns-2 returns-3)

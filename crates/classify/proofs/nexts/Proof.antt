@@ -1,63 +1,63 @@
 -- Each row is computed at its stage. Assumes nothing.
 use mathlib.Core.Path.{ap}
-use Rattle.classes.proofs.Rows.{row-computed, none_below}
+use Rattle.classes.proofs.Rows.{row_computed, none_below}
 use Rattle.classes.specs.Class.{ranges}
-use Rattle.classify.specs.Stage.{stages, left, stageOf, nextsOf}
+use Rattle.classify.specs.Stage.{stages, left, stage_of, nexts_of}
 use Rattle.classify.proofs.Agree.{row-beyond}
 use Rattle.classify.proofs.nexts.Statement.{statement}
 use Rattle.classify.proofs.nexts.Tie as tie
 
 returns : tie.Need-returns
-unfolding ranges stages left stageOf nextsOf
-returns c = row-computed nextsOf (left 0) _ _ (ap left c.match.keys1) tt
+unfolding ranges stages left stage_of nexts_of
+returns c = row_computed nexts_of (left 0) _ _ (ap left c.match.keys1) tt
 
 returns-2 : tie.Need-returns-2
-unfolding ranges stages left stageOf nextsOf
-returns-2 c = row-computed nextsOf (left 1) _ _ (ap left c.match.keys2) tt
+unfolding ranges stages left stage_of nexts_of
+returns-2 c = row_computed nexts_of (left 1) _ _ (ap left c.match.keys2) tt
 
 returns-3 : tie.Need-returns-3
-unfolding ranges stages left stageOf nextsOf
-returns-3 c = row-computed nextsOf (left 2) _ _ (ap left c.match.keys3) tt
+unfolding ranges stages left stage_of nexts_of
+returns-3 c = row_computed nexts_of (left 2) _ _ (ap left c.match.keys3) tt
 
 returns-4 : tie.Need-returns-4
-unfolding ranges stages left stageOf nextsOf
-returns-4 c = row-computed nextsOf (left 3) _ _ (ap left c.match.keys4) tt
+unfolding ranges stages left stage_of nexts_of
+returns-4 c = row_computed nexts_of (left 3) _ _ (ap left c.match.keys4) tt
 
 returns-5 : tie.Need-returns-5
-unfolding ranges stages left stageOf nextsOf
-returns-5 c = row-computed nextsOf (left 4) _ _ (ap left c.match.keys5) tt
+unfolding ranges stages left stage_of nexts_of
+returns-5 c = row_computed nexts_of (left 4) _ _ (ap left c.match.keys5) tt
 
 returns-6 : tie.Need-returns-6
-unfolding ranges stages left stageOf nextsOf
-returns-6 c = row-computed nextsOf (left 5) _ _ (ap left c.match.keys6) tt
+unfolding ranges stages left stage_of nexts_of
+returns-6 c = row_computed nexts_of (left 5) _ _ (ap left c.match.keys6) tt
 
 returns-7 : tie.Need-returns-7
-unfolding ranges stages left stageOf nextsOf
-returns-7 c = row-computed nextsOf (left 6) _ _ (ap left c.match.keys7) tt
+unfolding ranges stages left stage_of nexts_of
+returns-7 c = row_computed nexts_of (left 6) _ _ (ap left c.match.keys7) tt
 
 returns-8 : tie.Need-returns-8
-unfolding ranges stages left stageOf nextsOf
-returns-8 c = row-computed nextsOf (left 7) _ _ (ap left c.match.keys8) tt
+unfolding ranges stages left stage_of nexts_of
+returns-8 c = row_computed nexts_of (left 7) _ _ (ap left c.match.keys8) tt
 
 returns-9 : tie.Need-returns-9
-unfolding ranges stages left stageOf nextsOf
-returns-9 c = row-computed nextsOf (left 8) _ _ (ap left c.match.keys9) tt
+unfolding ranges stages left stage_of nexts_of
+returns-9 c = row_computed nexts_of (left 8) _ _ (ap left c.match.keys9) tt
 
 returns-10 : tie.Need-returns-10
-unfolding ranges stages left stageOf nextsOf
-returns-10 c = row-computed nextsOf (left 9) _ _ (ap left c.match.keys10) tt
+unfolding ranges stages left stage_of nexts_of
+returns-10 c = row_computed nexts_of (left 9) _ _ (ap left c.match.keys10) tt
 
 returns-11 : tie.Need-returns-11
-unfolding ranges stages left stageOf nextsOf
-returns-11 c = row-computed nextsOf (left 10) _ _ (ap left c.match.keys11) tt
+unfolding ranges stages left stage_of nexts_of
+returns-11 c = row_computed nexts_of (left 10) _ _ (ap left c.match.keys11) tt
 
 returns-12 : tie.Need-returns-12
-unfolding ranges stages left stageOf nextsOf
-returns-12 c = row-computed nextsOf (left 11) _ _ (ap left c.match.keys12) tt
+unfolding ranges stages left stage_of nexts_of
+returns-12 c = row_computed nexts_of (left 11) _ _ (ap left c.match.keys12) tt
 
 returns-13 : tie.Need-returns-13
-unfolding ranges stages left stageOf nextsOf
-returns-13 c = row-computed nextsOf (left 12) _ _ (ap left c.match.keys13) tt
+unfolding ranges stages left stage_of nexts_of
+returns-13 c = row_computed nexts_of (left 12) _ _ (ap left c.match.keys13) tt
 
 returns-14 : tie.Need-returns-14
 returns-14 c = row-beyond c.before.args.stage (none_below 13 _ c.match.rest)

@@ -1,17 +1,17 @@
 -- Assumes nothing.
 use mathlib.Core.Path.{refl, sym, ◌∙◌}
 use borrow.Author.Rules.{rules}
-use Rattle.codings.specs.Codings.{reader-refuses-in}
+use Rattle.codings.specs.Codings.{reader_refuses_in}
 use Rattle.codings.proofs.reader_refuses_in.Statement.{statement}
 use Rattle.codings.proofs.reader_refuses_in.Tie as tie
 
 returns : tie.Need-returns
-unfolding reader-refuses-in
-returns c = rw (sym c.before.refuses-surro.ensures ∙ c.if1.true) refl
+unfolding reader_refuses_in
+returns c = rw (sym c.before.refuses_surro.ensures ∙ c.if1.true) refl
 
 returns-2 : tie.Need-returns-2
-unfolding reader-refuses-in
-returns-2 c = rw (sym c.before.before.refuses-surro.ensures ∙ c.before.if1.false) c.reader-refuses.ensures
+unfolding reader_refuses_in
+returns-2 c = rw (sym c.before.before.refuses_surro.ensures ∙ c.before.if1.false) c.reader_refuses.ensures
 
 pub reader-refuses-in-spec : {M : Type 1} → statement M
 reader-refuses-in-spec = tie.close (tie.spec (λ c κs. search rules) returns (λ c κs. search rules) returns-2)

@@ -4,15 +4,15 @@ use borrow.Author.Rules.{rules}
 use Rattle.flags.specs.declared.Flags.{Flags}
 use Rattle.codings.specs.declared.Coding.{Coding}
 use Rattle.codings.specs.declared.Coding.TheVariants.{Cesu8}
-use Rattle.codings.specs.Codings.{refuses-surro}
+use Rattle.codings.specs.Codings.{refuses_surro}
 use Rattle.codings.proofs.refuses_surro.Statement.{statement}
 use Rattle.codings.proofs.refuses_surro.Tie as tie
 
-in-cesu8 : (K : Coding) (m n : Flags) → K ≡ Cesu8 → m ≡ n → m.surro ≡ refuses-surro K n
-in-cesu8 K m n k e = rw (k, e) refl
+in_cesu8 : (K : Coding) (m n : Flags) → K ≡ Cesu8 → m ≡ n → m.surro ≡ refuses_surro K n
+in_cesu8 K m n k e = rw (k, e) refl
 
 returns-2 : tie.Need-returns-2
-returns-2 c = in-cesu8 _ _ _ c.before.enum-told2.given.1 c.flags_of.ensures
+returns-2 c = in_cesu8 _ _ _ c.before.enum-told2.given.1 c.flags_of.ensures
 
 pub refuses-surro-spec : {M : Type 1} → statement M
 refuses-surro-spec = tie.close (tie.spec (λ c. search rules) (λ c. search rules) (λ c κs. search rules) (λ c. search rules) returns-2)

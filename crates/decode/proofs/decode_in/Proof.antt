@@ -7,28 +7,28 @@ use borrow.Author.Rules.{rules}
 use Rattle.flags.specs.declared.Flags.{Flags}
 use Rattle.form.specs.Table.{Form}
 use Rattle.forms.specs.Forms.{rows_of}
-use Rattle.codings.specs.Codings.{reader-form}
-use Rattle.readings.specs.Reading.{stopped, reading, decoding-in}
-use Rattle.readings.proofs.Readings.{accepted, refused-nothing}
-use Rattle.reader.specs.Decoded.{decodedOf}
+use Rattle.codings.specs.Codings.{reader_form}
+use Rattle.readings.specs.Reading.{stopped, reading, decoding_in}
+use Rattle.readings.proofs.Readings.{accepted, refused_nothing}
+use Rattle.reader.specs.Decoded.{decoded_of}
 use Rattle.decode.proofs.decode_in.Statement.{statement}
 use Rattle.decode.proofs.decode_in.Tie as tie
 
 returns : tie.Need-returns
-unfolding decodedOf stopped
+unfolding decoded_of stopped
 returns c =
     let a = c.before.before.before.before.args in
-    rw (refused-nothing a.coding a.flags (length a.codes.now) a.s.now (sym c.before.reader-refuses-in.ensures ∙ c.if1.true)) (refl, refl)
+    rw (refused_nothing a.coding a.flags (length a.codes.now) a.s.now (sym c.before.reader_refuses_in.ensures ∙ c.if1.true)) (refl, refl)
 
 abbrev start : tie.After-reader-form → tie.Start
 start f = f.before.before.before.before.before.before
 
 -- the form and the flags are those of the number
-is-decoding : (f : tie.After-reader-form) (room : ℕ) (s : List ℕ) → reading (rows_of f.reader-form.result) f.before.flags_of.result room s ≡ decoding-in (start f).args.coding (start f).args.flags room s
+is-decoding : (f : tie.After-reader-form) (room : ℕ) (s : List ℕ) → reading (rows_of f.reader_form.result) f.before.flags_of.result room s ≡ decoding_in (start f).args.coding (start f).args.flags room s
 is-decoding f room s =
-    let e = sym f.before.before.before.reader-refuses-in.ensures ∙ f.before.before.if1.false in
-    ap (λ (F : Form). reading F f.before.flags_of.result room s) f.reader-form.ensures
-    ∙ ap (λ (m : Flags). reading (reader-form (start f).args.coding m) m room s) f.before.flags_of.ensures
+    let e = sym f.before.before.before.reader_refuses_in.ensures ∙ f.before.before.if1.false in
+    ap (λ (F : Form). reading F f.before.flags_of.result room s) f.reader_form.ensures
+    ∙ ap (λ (m : Flags). reading (reader_form (start f).args.coding m) m room s) f.before.flags_of.ensures
     ∙ sym (accepted (start f).args.coding (start f).args.flags room s e)
 
 returns-2 : tie.Need-returns-2

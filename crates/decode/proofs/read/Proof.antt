@@ -11,8 +11,8 @@ use borrow.Author.Rules.{part_to_end}
 use borrow.Rule.Slice.PartMut.{mid_of, put_mid}
 use Rattle.forms.specs.Forms.{rows_of}
 use Rattle.readings.specs.Come.{as_is, Come}
-use Rattle.readings.proofs.Come.{cells, come-start, come-same, come-room}
-use Rattle.reader.proofs.Onward.{Item, ended, item-lent}
+use Rattle.readings.proofs.Come.{cells, come_start, come_same, come-room}
+use Rattle.reader.proofs.Onward.{Item, ended, item_lent}
 use Rattle.decode.proofs.Answer.{by-produced}
 use Rattle.decode.proofs.read.Statement.{statement}
 use Rattle.decode.proofs.read.Tie as tie
@@ -51,8 +51,8 @@ item r =
     let room = length (start (top l)).args.codes.now in
     let d = l.leap.last.1.1.1.1.0 in
     let n = l.leap.result.n in
-    let k : length (mid_of n (length d - n) d) ≡ room - n = rw (part_to_end d n) (omega (arith, length-drop n d, come-same cells (come l))) in
-    item-lent cells (come l) room (come-room cells (come l)) (min (length (mid_of n (length d - n) d)) 1) (ap (λ (x : ℕ). min x 1) k) _ _ r.read_one.ensures.0 r.read_one.ensures.1
+    let k : length (mid_of n (length d - n) d) ≡ room - n = rw (part_to_end d n) (omega (arith, length-drop n d, come_same cells (come l))) in
+    item_lent cells (come l) room (come-room cells (come l)) (min (length (mid_of n (length d - n) d)) 1) (ap (λ (x : ℕ). min x 1) k) _ _ r.read_one.ensures.0 r.read_one.ensures.1
 
 at-fits : (r : tie.After-read-one invariant-loop decreases-loop) → Fits w64 ((leapt r).leap.result.at + r.read_one.result.consumed)
 at-fits r = omega (arith, (item r).place, (start (top (leapt r))).good.1.1.0.1)
@@ -70,16 +70,16 @@ read_spec =
     (tie.spec
     invariant-loop
     decreases-loop
-    (λ c. come-start cells _ _ _ _)
+    (λ c. come_start cells _ _ _ _)
     (λ c κs. search rules)
-    (λ c. come-same cells (come c.before.before.before))
+    (λ c. come_same cells (come c.before.before.before))
     (λ c. let l = c.before.before.before in let a = (start (top l)).args in by-produced (rows_of a.form) a.m a.s.now a.codes.now _ (length a.codes.now) _ (ended cells (come l) _ (come-room cells (come l)) c.if1.true))
     (λ c. let l = c.before.before.before in omega (arith, (come l).converts.within))
     (λ c. let l = c.before.before.before in omega (arith, (come l).converts.within))
     (λ c. omega arith)
     (λ c. let l = c.before.before.before.before in omega (arith, come-room cells (come l), (start (top l)).good.1.1.1.0.1))
-    (λ c. let l = c.before.before.before.before in omega (arith, come-room cells (come l), come-same cells (come l)))
-    (λ c. let l = c.before.before.before.before in omega (arith, come-room cells (come l), come-same cells (come l)))
+    (λ c. let l = c.before.before.before.before in omega (arith, come-room cells (come l), come_same cells (come l)))
+    (λ c. let l = c.before.before.before.before in omega (arith, come-room cells (come l), come_same cells (come l)))
     (λ c. omega arith)
     (λ c κs. search rules)
     (λ c. at-fits c.before.before.before)

@@ -2,12 +2,12 @@
 use mathlib.Core.Path.{ap}
 use borrow.Author.Rules.{rules}
 use Rattle.reader.specs.declared.Decoded.{Decoded}
-use Rattle.reader.specs.Decoded.{decodedOf}
+use Rattle.reader.specs.Decoded.{decoded_of}
 use Rattle.direct.proofs.direct_decode.Statement.{statement}
 use Rattle.direct.proofs.direct_decode.Tie as tie
 
 returns : tie.Need-returns
-unfolding decodedOf
+unfolding decoded_of
 returns c = let e = c.before.before.decode.ensures in (ap (λ (r : Decoded). r.produced) e.0, e.1)
 
 pub direct-decode-spec : {M : Type 1} → statement M

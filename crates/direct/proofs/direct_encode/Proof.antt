@@ -2,12 +2,12 @@
 use mathlib.Core.Path.{ap}
 use borrow.Author.Rules.{rules}
 use Rattle.writer.specs.declared.Encoded.{Encoded}
-use Rattle.writer.specs.Encoded.{encodedOf}
+use Rattle.writer.specs.Encoded.{encoded_of}
 use Rattle.direct.proofs.direct_encode.Statement.{statement}
 use Rattle.direct.proofs.direct_encode.Tie as tie
 
 returns : tie.Need-returns
-unfolding encodedOf
+unfolding encoded_of
 returns c = let e = c.before.before.encode.ensures in (ap (λ (r : Encoded). r.produced) e.0, e.1)
 
 pub direct-encode-spec : {M : Type 1} → statement M

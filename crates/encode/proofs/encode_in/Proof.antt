@@ -7,10 +7,10 @@ use native.Mathlib.Omega.{arith}
 use lib.ListN.{length, take, drop}
 use borrow.Author.Rules.{scaled_Fits}
 use borrow.Rule.Slice.PartMut.{put_mid}
-use Rattle.codings.specs.Codings.{writer-refuses-in}
+use Rattle.codings.specs.Codings.{writer_refuses_in}
 use Rattle.forms.specs.Forms.{rows_of}
 use Rattle.writings.specs.Come.{Come}
-use Rattle.writings.proofs.Come.{come-start, come-same, come-within, come-ended}
+use Rattle.writings.proofs.Come.{come_start, come_same, come_within, come_ended}
 use Rattle.writer.proofs.Calls.{Called, called, over-written}
 use Rattle.encode.proofs.Answers.{refused, answers, by-produced}
 use Rattle.encode.proofs.encode_in.Statement.{statement}
@@ -28,8 +28,8 @@ By = tie.After-writer-form invariant-loop decreases-loop
 abbrev start : By → tie.Start invariant-loop decreases-loop
 start c = c.before.before.before.before.before.before
 
-accepted : (c : By) → writer-refuses-in (start c).args.coding (start c).args.flags ≡ false
-accepted c = sym c.before.before.before.writer-refuses-in.ensures ∙ c.before.before.if1.false
+accepted : (c : By) → writer_refuses_in (start c).args.coding (start c).args.flags ≡ false
+accepted c = sym c.before.before.before.writer_refuses_in.ensures ∙ c.before.before.if1.false
 
 -- ---- after a leap
 
@@ -48,11 +48,11 @@ n c = c.leap.result.n
 abbrev dst : Leapt → List ℕ
 dst c = c.leap.new.1.1.1.1.0
 
-leapt : (c : Leapt) → Come (rows_of (by c).writer-form.result) (by c).before.flags_of.result (start (by c)).args.codes.now (start (by c)).args.dst.now (dst c) (at c) (n c)
+leapt : (c : Leapt) → Come (rows_of (by c).writer_form.result) (by c).before.flags_of.result (start (by c)).args.codes.now (start (by c)).args.dst.now (dst c) (at c) (n c)
 leapt c = c.leap.ensures.keeps _ c.before.before.loop.invariant
 
 forth : (c : Leapt) → c.before.before.loop.at ≤ at c
-forth c = c.leap.ensures.codes-forth
+forth c = c.leap.ensures.codes_forth
 
 -- where codes are left
 abbrev Left : Type 0
@@ -62,7 +62,7 @@ abbrev from : Left → Leapt
 from e = e.before.before.before
 
 some : (e : Left) → at (from e) < length (start (by (from e))).args.codes.now
-some e = omega (arith, e.if2.false, (come-within (leapt (from e))).0)
+some e = omega (arith, e.if2.false, (come_within (leapt (from e))).0)
 
 -- ---- after one code
 
@@ -73,7 +73,7 @@ abbrev left : One → Left
 left c = c.before.before.before
 
 one : (c : One)
-    → Called (rows_of (by (from (left c))).writer-form.result) (by (from (left c))).before.flags_of.result (start (by (from (left c)))).args.codes.now (start (by (from (left c)))).args.dst.now
+    → Called (rows_of (by (from (left c))).writer_form.result) (by (from (left c))).before.flags_of.result (start (by (from (left c)))).args.codes.now (start (by (from (left c)))).args.dst.now
     (put_mid (n (from (left c))) (length (dst (from (left c))) - n (from (left c))) (dst (from (left c))) c.write_as.new.1.1.1.0) (at (from (left c))) (n (from (left c))) c.write_as.result
 one c =
     let l = from (left c) in
@@ -100,21 +100,21 @@ returns : tie.Need-returns invariant-loop decreases-loop
 returns c =
     let a = c.before.before.before.before.args in
     by-produced _ _ a.codes.now a.dst.now _ _
-    (refused a.coding a.flags a.codes.now a.dst.now (sym c.before.writer-refuses-in.ensures ∙ c.if1.true))
+    (refused a.coding a.flags a.codes.now a.dst.now (sym c.before.writer_refuses_in.ensures ∙ c.if1.true))
 
 returns-2 : tie.Need-returns-2 invariant-loop decreases-loop
 returns-2 c =
     let l = c.before.before.before in
     let b = by l in
     by-produced _ _ (start b).args.codes.now (start b).args.dst.now _ _
-    (answers _ _ _ _ (accepted b) b.writer-form.ensures b.before.flags_of.ensures (start b).args.codes.now (come-ended (leapt l) c.if2.true))
+    (answers _ _ _ _ (accepted b) b.writer_form.ensures b.before.flags_of.ensures (start b).args.codes.now (come_ended (leapt l) c.if2.true))
 
 returns-3 : tie.Need-returns-3 invariant-loop decreases-loop
 returns-3 c =
     let o = counted c.before in
     let b = by (from (left o)) in
     by-produced _ _ (start b).args.codes.now (start b).args.dst.now _ _
-    (answers _ _ _ _ (accepted b) b.writer-form.ensures b.before.flags_of.ensures (start b).args.codes.now ((one o).ends c.if3.true))
+    (answers _ _ _ _ (accepted b) b.writer_form.ensures b.before.flags_of.ensures (start b).args.codes.now ((one o).ends c.if3.true))
 
 pub encode-in-spec : {M : Type 1} → statement M
 encode-in-spec =
@@ -126,17 +126,17 @@ encode-in-spec =
     returns
     (λ c κs. tt)
     (λ c κs. tt)
-    (λ c. come-start _ _ _ _)
+    (λ c. come_start _ _ _ _)
     (λ c κs. tt)
-    (λ c. come-same (leapt c.before.before.before))
+    (λ c. come_same (leapt c.before.before.before))
     returns-2
     (λ c. omega (arith, some c))
     (λ c. scaled_Fits _ _ 4 (some c) (start (by (from c))).good.1.0.1)
     (λ c. omega arith)
     (λ c. omega arith)
     (λ c. omega (arith, some c))
-    (λ c. (come-within (leapt (from c.before))).1)
-    (λ c. (come-within (leapt (from c.before))).1)
+    (λ c. (come_within (leapt (from c.before))).1)
+    (λ c. (come_within (leapt (from c.before))).1)
     (λ c. omega arith)
     (λ c κs. tt)
     add_at

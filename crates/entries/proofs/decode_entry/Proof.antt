@@ -10,27 +10,27 @@ use borrow.Author.Rules.{rules, sfits_of}
 use borrow.Author.Tests.{eq-eqb, ne_eqb, le-leb, lt-leb}
 use Rattle.codings.proofs.Laws.{longest-few}
 use Rattle.reader.specs.declared.Decoded.{Decoded}
-use Rattle.readings.specs.Reading.{Reading, stopped, decoding-in}
-use Rattle.reader.specs.Decoded.{decodedOf}
-use Rattle.readings.proofs.Readings.{refused-nothing}
+use Rattle.readings.specs.Reading.{Reading, stopped, decoding_in}
+use Rattle.reader.specs.Decoded.{decoded_of}
+use Rattle.readings.proofs.Readings.{refused_nothing}
 use Rattle.readings.proofs.Theorems.{refused-exactly, within, subpart-few}
 use Rattle.numbers.specs.Number.{low_first}
 use Rattle.quads.specs.Bytes.{laid}
-use Rattle.entries.specs.Entry.{answer_of, given, decode-entry-in}
+use Rattle.entries.specs.Entry.{answer_of, given, decode_entry_in}
 use Rattle.entries.proofs.Answers.{refuses, tells, decode-given}
 use Rattle.entries.proofs.decode_entry.Statement.{statement}
 use Rattle.entries.proofs.decode_entry.Tie as tie
 
 returns : tie.Need-returns
-unfolding decode-entry-in
+unfolding decode_entry_in
 returns c = simp (ne_eqb _ _ c.if1.true)
 
 returns-2 : tie.Need-returns-2
-unfolding decode-entry-in
+unfolding decode_entry_in
 returns-2 c = simp (eq-eqb _ _ c.before.if1.false, lt-leb _ _ c.if2.true)
 
 returns-3 : tie.Need-returns-3
-unfolding decode-entry-in
+unfolding decode_entry_in
 returns-3 c = simp (eq-eqb _ _ c.before.before.if1.false, le-leb _ _ c.before.if2.false, lt-leb _ _ c.if3.true)
 
 module _ (c : tie.After-decode-packed) where
@@ -38,30 +38,30 @@ module _ (c : tie.After-decode-packed) where
   start = c.before.before.before.before.before.before.before.before
 
   abbrev R : Reading
-  R = decoding-in start.args.coding start.args.flags (length start.args.codes.now / 4) start.args.src.now
+  R = decoding_in start.args.coding start.args.flags (length start.args.codes.now / 4) start.args.src.now
 
   gives : given R.number R.consumed (length R.codes) R.subpart (laid R.codes) start.args.codes.now start.args.report.now
-      ≡ decode-entry-in start.args.coding start.args.src.now start.args.codes.now start.args.flags start.args.report.now
+      ≡ decode_entry_in start.args.coding start.args.src.now start.args.codes.now start.args.flags start.args.report.now
   gives = decode-given start.args.coding start.args.src.now start.args.codes.now start.args.report.now start.args.flags c.before.before.before.before.if1.false c.before.before.before.if2.false c.before.before.if3.false
 
   number : R.number ≡ c.decode-packed.result.number
-  unfolding decodedOf
+  unfolding decoded_of
   number = sym (ap (λ (x : Decoded). x.number) c.decode-packed.ensures.0)
 
   none : R.number ≡ 4 → laid R.codes ≡ []
   unfolding stopped
-  none e = ap (λ (X : Reading). laid X.codes) (refused-nothing _ _ _ _ ((refused-exactly _ _ _ _).0 e))
+  none e = ap (λ (X : Reading). laid X.codes) (refused_nothing _ _ _ _ ((refused-exactly _ _ _ _).0 e))
 
   few : c.decode-packed.result.produced ≤ 1048576
-  unfolding decodedOf
+  unfolding decoded_of
   few = rw c.decode-packed.ensures.0 (omega (arith, (within start.args.coding start.args.flags (length start.args.codes.now / 4) start.args.src.now).1, c.before.before.if3.false))
 
   short : c.decode-packed.result.subpart < 256
-  unfolding decodedOf
+  unfolding decoded_of
   short = rw c.decode-packed.ensures.0 (omega (arith, subpart-few start.args.coding start.args.flags (length start.args.codes.now / 4) start.args.src.now, longest-few start.args.coding))
 
 returns-5 : tie.Need-returns-5
-unfolding decodedOf
+unfolding decoded_of
 returns-5 c =
     let t = c.before.before.before in
     let d = t.before.before.before.before.before.before.before in

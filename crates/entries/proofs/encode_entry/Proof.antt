@@ -9,30 +9,30 @@ use lib.ListN.{length}
 use borrow.Author.Rules.{rules, sfits_of}
 use borrow.Author.Tests.{eq-eqb, ne_eqb, le-leb, lt-leb}
 use Rattle.writer.specs.declared.Encoded.{Encoded}
-use Rattle.writings.specs.Writing.{Writing, encoding-in}
-use Rattle.writer.specs.Encoded.{encodedOf}
-use Rattle.writings.proofs.Theorems.{refused-nothing, within}
+use Rattle.writings.specs.Writing.{Writing, encoding_in}
+use Rattle.writer.specs.Encoded.{encoded_of}
+use Rattle.writings.proofs.Theorems.{refused_nothing, within}
 use Rattle.numbers.specs.Number.{low_first}
 use Rattle.quads.specs.Bytes.{codes_of}
-use Rattle.entries.specs.Entry.{answer_of, given, encode-entry-in}
+use Rattle.entries.specs.Entry.{answer_of, given, encode_entry_in}
 use Rattle.entries.proofs.Answers.{refuses, tells, encode-given}
 use Rattle.entries.proofs.encode_entry.Statement.{statement}
 use Rattle.entries.proofs.encode_entry.Tie as tie
 
 returns : tie.Need-returns
-unfolding encode-entry-in
+unfolding encode_entry_in
 returns c = simp (ne_eqb _ _ c.if1.true)
 
 returns-2 : tie.Need-returns-2
-unfolding encode-entry-in
+unfolding encode_entry_in
 returns-2 c = simp (eq-eqb _ _ c.before.if1.false, lt-leb _ _ c.if2.true)
 
 returns-3 : tie.Need-returns-3
-unfolding encode-entry-in
+unfolding encode_entry_in
 returns-3 c = simp (eq-eqb _ _ c.before.before.if1.false, le-leb _ _ c.before.if2.false, lt-leb _ _ c.if3.true)
 
 returns-4 : tie.Need-returns-4
-unfolding encode-entry-in
+unfolding encode_entry_in
 returns-4 c = simp (eq-eqb _ _ c.before.before.before.if1.false, le-leb _ _ c.before.before.if2.false, le-leb _ _ c.before.if3.false, ne_eqb _ _ c.if4.true)
 
 module _ (c : tie.After-encode-packed) where
@@ -40,22 +40,22 @@ module _ (c : tie.After-encode-packed) where
   start = c.before.before.before.before.before.before.before.before.before
 
   abbrev W : Writing
-  W = encoding-in start.args.coding start.args.flags (length start.args.dst.now) (codes_of start.args.codes.now)
+  W = encoding_in start.args.coding start.args.flags (length start.args.dst.now) (codes_of start.args.codes.now)
 
   gives : given W.number W.consumed (length W.written) 0 W.written start.args.dst.now start.args.report.now
-      ≡ encode-entry-in start.args.coding start.args.codes.now start.args.dst.now start.args.flags start.args.report.now
+      ≡ encode_entry_in start.args.coding start.args.codes.now start.args.dst.now start.args.flags start.args.report.now
   gives = encode-given start.args.coding start.args.codes.now start.args.dst.now start.args.report.now start.args.flags c.before.before.before.before.before.if1.false c.before.before.before.before.if2.false c.before.before.before.if3.false c.before.before.if4.false
 
   number : W.number ≡ c.encode-packed.result.number
-  unfolding encodedOf
+  unfolding encoded_of
   number = sym (ap (λ (x : Encoded). x.number) c.encode-packed.ensures.0)
 
   few : c.encode-packed.result.produced ≤ 1048576
-  unfolding encodedOf
+  unfolding encoded_of
   few = rw c.encode-packed.ensures.0 (omega (arith, (within start.args.coding start.args.flags (length start.args.dst.now) (codes_of start.args.codes.now)).0, c.before.before.before.if3.false))
 
 returns-6 : tie.Need-returns-6
-unfolding encodedOf
+unfolding encoded_of
 returns-6 c =
     let t = c.before.before.before in
     let d = t.before.before.before.before.before.before in
@@ -73,7 +73,7 @@ encode-entry-spec =
     returns-4
     (λ c κs. search rules)
     (λ c. search rules)
-    (λ c. let d = c.before.before.before.before in let e = number d ∙ c.if5.true in refuses _ _ _ _ _ _ _ _ e (refused-nothing _ _ _ _ e).1 d.encode-packed.ensures.1 ∙ gives d)
+    (λ c. let d = c.before.before.before.before in let e = number d ∙ c.if5.true in refuses _ _ _ _ _ _ _ _ e (refused_nothing _ _ _ _ e).1 d.encode-packed.ensures.1 ∙ gives d)
     (λ c κs. search rules)
     (λ c κs. few c.before.before.before.before.before.before.before.before)
     (λ c. search rules)

@@ -4,13 +4,13 @@ use Prim.Native.Nat.{ℕ, max}
 use native.Mathlib.Omega.{arith}
 use borrow.Author.Rules.{rules}
 use Rattle.straight.specs.declared.Straight.{Straight}
-use Rattle.item.specs.Leaf.{leafOf}
-use Rattle.item.proofs.Fronts.{span_none, span-ascii, span-straight}
+use Rattle.item.specs.Leaf.{leaf_of}
+use Rattle.item.proofs.Fronts.{span_none, span-ascii, span_straight}
 use Rattle.item.proofs.span_of.Statement.{statement}
 use Rattle.item.proofs.span_of.Tie as tie
 
-by-straight : (c : tie.After-straight-of) (r : ℕ) → r ≡ max 1 c.straight-of.result.len → r ≡ (leafOf c.before.before.before.before.before.args.s.now).span
-by-straight c r e = e ∙ ap (λ (q : Straight). max 1 q.len) c.straight-of.ensures ∙ span-straight _ (omega (arith, c.before.before.before.if1.false))
+by_straight : (c : tie.After-straight-of) (r : ℕ) → r ≡ max 1 c.straight-of.result.len → r ≡ (leaf_of c.before.before.before.before.before.args.s.now).span
+by_straight c r e = e ∙ ap (λ (q : Straight). max 1 q.len) c.straight-of.ensures ∙ span_straight _ (omega (arith, c.before.before.before.if1.false))
 
 pub span-of-spec : {M : Type 1} → statement M
 span-of-spec =
@@ -20,5 +20,5 @@ span-of-spec =
     (λ c. search rules)
     (λ c. span-ascii _ (omega arith) c.if2.true)
     (λ c κs. search rules)
-    (λ c. by-straight c.before.before 1 (omega arith))
-    (λ c. let u = c.before.before in by-straight u u.straight-of.result.len (omega arith)))
+    (λ c. by_straight c.before.before 1 (omega arith))
+    (λ c. let u = c.before.before in by_straight u u.straight-of.result.len (omega arith)))

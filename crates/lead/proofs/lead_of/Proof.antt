@@ -5,24 +5,24 @@ use native.Mathlib.Omega.{arith}
 use borrow.Author.Rules.{rules}
 use lib.Dec.{T}
 use Rattle.form.specs.Table as Table
-use Rattle.form.specs.Table.{plain, surro, cesu, long-rows}
+use Rattle.form.specs.Table.{plain, surro, cesu, long_rows}
 use Rattle.form.specs.Scan.{after}
 use Rattle.form.proofs.Between.{between, between-at}
 use Rattle.forms.specs.declared.Form.{Form}
 use Rattle.lead.specs.declared.Lead.{Lead}
 use Rattle.forms.specs.Forms.{rows_of}
-use Rattle.lead.specs.Lead.{leadOf}
-use Rattle.lead.proofs.Arms.{arm, arms, same-lead, same-lead-path}
+use Rattle.lead.specs.Lead.{lead_of}
+use Rattle.lead.proofs.Arms.{arm, arms, same_lead, same_lead_path}
 use Rattle.lead.proofs.lead_of.Statement.{statement}
 use Rattle.lead.proofs.lead_of.Tie as tie
 
 -- F0 and above lead by the long rows alone
-long-leads : (F : Table.Form) → T (between 0xF0 16 (λ b. same-lead (leadOf (after b long-rows)) (leadOf (after b F)))) → (b : ℕ) → 0xF0 ≤ b → b < 0xF0 + 16
-    → leadOf (after b long-rows) ≡ leadOf (after b F)
-long-leads F t b h g = same-lead-path _ _ (between-at 0xF0 16 (λ x. same-lead (leadOf (after x long-rows)) (leadOf (after x F))) t b h g)
+long-leads : (F : Table.Form) → T (between 0xF0 16 (λ b. same_lead (lead_of (after b long_rows)) (lead_of (after b F)))) → (b : ℕ) → 0xF0 ≤ b → b < 0xF0 + 16
+    → lead_of (after b long_rows) ≡ lead_of (after b F)
+long-leads F t b h g = same_lead_path _ _ (between-at 0xF0 16 (λ x. same_lead (lead_of (after x long_rows)) (lead_of (after x F))) t b h g)
 
-abbrev of-form : ℕ → Form → Lead
-of-form b f = leadOf (after b (rows_of f))
+abbrev of_form : ℕ → Form → Lead
+of_form b f = lead_of (after b (rows_of f))
 
 returns : tie.Need-returns
 unfolding plain surro cesu
@@ -32,19 +32,19 @@ returns-2 : tie.Need-returns-2
 unfolding plain
 returns-2 c =
     let a = c.before.before.before.before.args in
-    c.leads2.ensures ∙ arm plain 0xED 1 _ tt a.b (omega arith) (omega arith) ∙ ap (of-form a.b) (sym c.before.enum_told.given.1)
+    c.leads2.ensures ∙ arm plain 0xED 1 _ tt a.b (omega arith) (omega arith) ∙ ap (of_form a.b) (sym c.before.enum_told.given.1)
 
 returns-3 : tie.Need-returns-3
 unfolding surro
 returns-3 c =
     let a = c.before.before.before.before.args in
-    c.leads3.ensures ∙ arm surro 0xED 1 _ tt a.b (omega arith) (omega arith) ∙ ap (of-form a.b) (sym c.before.enum-told2.given.1)
+    c.leads3.ensures ∙ arm surro 0xED 1 _ tt a.b (omega arith) (omega arith) ∙ ap (of_form a.b) (sym c.before.enum-told2.given.1)
 
 returns-4 : tie.Need-returns-4
 unfolding cesu
 returns-4 c =
     let a = c.before.before.before.before.args in
-    c.leads4.ensures ∙ arm cesu 0xED 1 _ tt a.b (omega arith) (omega arith) ∙ ap (of-form a.b) (sym c.before.enum-told3.given.1)
+    c.leads4.ensures ∙ arm cesu 0xED 1 _ tt a.b (omega arith) (omega arith) ∙ ap (of_form a.b) (sym c.before.enum-told3.given.1)
 
 returns-5 : tie.Need-returns-5
 unfolding plain surro cesu
@@ -70,19 +70,19 @@ returns-10 : tie.Need-returns-10
 unfolding plain
 returns-10 c =
     let s = c.before.before.before.before.before.before.before.before.before in
-    c.lead-long.ensures ∙ long-leads plain tt s.args.b (omega arith) (omega arith) ∙ ap (of-form s.args.b) (sym c.before.enum-told4.given.1)
+    c.lead-long.ensures ∙ long-leads plain tt s.args.b (omega arith) (omega arith) ∙ ap (of_form s.args.b) (sym c.before.enum-told4.given.1)
 
 returns-11 : tie.Need-returns-11
 unfolding surro
 returns-11 c =
     let s = c.before.before.before.before.before.before.before.before.before in
-    c.lead-long2.ensures ∙ long-leads surro tt s.args.b (omega arith) (omega arith) ∙ ap (of-form s.args.b) (sym c.before.enum-told5.given.1)
+    c.lead-long2.ensures ∙ long-leads surro tt s.args.b (omega arith) (omega arith) ∙ ap (of_form s.args.b) (sym c.before.enum-told5.given.1)
 
 returns-12 : tie.Need-returns-12
 unfolding cesu
 returns-12 c =
     let a = c.before.before.before.before.before.before.before.before.before.args in
-    c.leads10.ensures ∙ arm cesu 0xF0 16 _ tt a.b (omega arith) (omega arith) ∙ ap (of-form a.b) (sym c.before.enum-told6.given.1)
+    c.leads10.ensures ∙ arm cesu 0xF0 16 _ tt a.b (omega arith) (omega arith) ∙ ap (of_form a.b) (sym c.before.enum-told6.given.1)
 
 pub lead-of-spec : {M : Type 1} → statement M
 lead-of-spec =

@@ -21,4 +21,4 @@ find_spec =
     (λ c κs. search rules)
     (λ c κs. search rules)
     (λ c.
-    c.walk-on.ensures ∙ found_from (start c).args.log.now (start c).args.index.now (start c).args.k _ (omega arith) c.before.number_of_lem.ensures))
+    c.walk_on.ensures ∙ found_from (start c).args.log.now (start c).args.index.now (start c).args.k _ (omega arith) c.before.number_of_lem.ensures))

@@ -3,7 +3,7 @@ use mathlib.Core.Path.{sym, ◌∙◌}
 use Prim.Native.Nat.{◌-◌}
 use native.Mathlib.Omega.{arith}
 use borrow.Author.Rules.{rules}
-use Rattle.log_update.proofs.Resuming.{Resuming, resuming-start, resuming-on, resuming-stop, resuming-end}
+use Rattle.log_update.proofs.Resuming.{Resuming, resuming_start, resuming-on, resuming-stop, resuming_end}
 use Rattle.log_update.proofs.resume_of.Statement.{statement}
 use Rattle.log_update.proofs.resume_of.Tie as tie
 
@@ -22,7 +22,7 @@ resume-of-spec =
     (tie.spec
     invariant-loop
     decreases-loop
-    (λ c. resuming-start _ _ _)
+    (λ c. resuming_start _ _ _)
     (λ c. omega (arith, c.before.before.before.requires))
     (λ c. omega (arith, c.before.before.before.requires))
     (λ c. omega (arith, c.before.before.before.requires))
@@ -33,4 +33,4 @@ resume-of-spec =
     (λ c. omega arith)
     (λ c. let d = c.before in resuming-on _ _ _ _ _ _ (place d).loop.invariant (omega arith) d.before.number_of_lem.ensures (sym d.is-standing.ensures ∙ c.if1.true))
     (λ c. let d = c.before in resuming-stop _ _ _ _ _ _ (place d).loop.invariant (omega arith) d.before.number_of_lem.ensures (sym d.is-standing.ensures ∙ c.if1.false))
-    (λ c. resuming-end _ _ _ _ _ c.before.loop.invariant (omega arith)))
+    (λ c. resuming_end _ _ _ _ _ c.before.loop.invariant (omega arith)))

@@ -70,7 +70,7 @@ update-spec =
     (λ c.
     let l = c.before.before.before in
     let d = l.before.before.before.before in
-    omega (arith, few d.before, laid-few (index d) _ _ _ l.lay-records.ensures.0, (start d).well-formed.1.1.0.1))
+    omega (arith, few d.before, laid-few (index d) _ _ _ l.lay-records.ensures.0, (start d).well_formed.1.1.0.1))
     (λ c. search rules)
     returns-3
     (λ c. search rules)

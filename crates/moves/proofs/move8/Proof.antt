@@ -1,35 +1,35 @@
 -- Each arm finishes the reading for 8-bit units. Assumes nothing.
 use mathlib.Core.Path.{sym, ◌∙◌}
 use borrow.Author.Rules.{rules}
-use Rattle.units.specs.Width.{width8, splitOf}
+use Rattle.units.specs.Width.{width8, split_of}
 use Rattle.advance.proofs.From.{step_is}
-use Rattle.moves.specs.Moves.{movedOf}
-use Rattle.moves.proofs.Readings.{reading-says, with-next}
+use Rattle.moves.specs.Moves.{moved_of}
+use Rattle.moves.proofs.Readings.{reading-says, with_next}
 use Rattle.moves.proofs.move8.Statement.{statement}
 use Rattle.moves.proofs.move8.Tie as tie
 
 returns : tie.Need-returns
-unfolding movedOf
+unfolding moved_of
 returns c =
     let q = c.before.before.before.before.before in
     rw c.answered.ensures (sym (reading-says _ _ _ _ _ q.advance.ensures c.before.before.reading.given.1 width8))
 
 returns-2 : tie.Need-returns-2
-unfolding movedOf
+unfolding moved_of
 returns-2 c =
     let q = c.before.before.before.before.before in
     let (us, (e, t)) = reading-says _ _ _ _ _ q.advance.ensures c.before.before.reading2.given.1 in
-    rw c.answered2.ensures (with-next _ t ∙ sym (step_is _ width8 _ _ _ e))
+    rw c.answered2.ensures (with_next _ t ∙ sym (step_is _ width8 _ _ _ e))
 
 returns-3 : tie.Need-returns-3
-unfolding movedOf
+unfolding moved_of
 returns-3 c =
     let q = c.before.before.before.before in
     let (e, t) = reading-says _ _ _ _ _ q.advance.ensures c.before.enum_told.given.1 in
     rw c.answered3.ensures (sym (step_is _ width8 _ _ _ e))
 
 returns-4 : tie.Need-returns-4
-unfolding movedOf splitOf
+unfolding moved_of split_of
 returns-4 c =
     let q = c.before.before.before.before.before.before.before in
     let (k, t) = reading-says _ _ _ _ _ q.advance.ensures c.before.before.before.before.reading3.given.1 in

@@ -5,20 +5,20 @@ use borrow.Author.Rules.{rules}
 use Rattle.form.specs.Table.{plain}
 use Rattle.form.proofs.Utf8.{plain-scans}
 use Rattle.validity.specs.declared.Kind.{Kind}
-use Rattle.state.specs.Meaning.{Sense, valid, high, senseOf}
+use Rattle.state.specs.Meaning.{Sense, valid, high, sense_of}
 use Rattle.back.specs.Back.{after, back_by, step_back}
 use Rattle.validity.proofs.Told.{Is, told_is}
-use Rattle.state.proofs.Laid.{shows, unit-where}
+use Rattle.state.proofs.Laid.{shows, unit_where}
 use Rattle.moves.proofs.move_back.Statement.{statement}
 use Rattle.moves.proofs.move_back.Tie as tie
 
 abbrev start : tie.After-kind-of → tie.Start
 start q = q.before.before
 
-is : (q : tie.After-kind-of) (k : Kind) → q.kind-of.result ≡ k → Is k (senseOf plain (start q).args.s)
-is q k e = told_is q.kind-of.result k (senseOf plain (start q).args.s) e q.kind-of.ensures
+is : (q : tie.After-kind-of) (k : Kind) → q.kind-of.result ≡ k → Is k (sense_of plain (start q).args.s)
+is q k e = told_is q.kind-of.result k (sense_of plain (start q).args.s) e q.kind-of.ensures
 
-at : (s : tie.Start) (x : Sense) → senseOf plain s.args.s ≡ x → back_by x s.args.s s.args.u ≡ step_back s.args.s s.args.u
+at : (s : tie.Start) (x : Sense) → sense_of plain s.args.s ≡ x → back_by x s.args.s s.args.u ≡ step_back s.args.s s.args.u
 unfolding step_back
 at s x e = ap (λ (y : Sense). back_by y s.args.s s.args.u) (sym e)
 
@@ -48,7 +48,7 @@ returns-5 c =
     let s = start q in
     let (h, e) = is q _ c.before.before.enum-told5.given.1 in
     let v = shows plain-scans (high h) s.args.s e in
-    let u = c.before.unit-of.ensures ∙ unit-where s.args.s.count h s.args.s.bytes v.within v.says in
+    let u = c.before.unit-of.ensures ∙ unit_where s.args.s.count h s.args.s.bytes v.within v.says in
     c.back-after.ensures ∙ ap (λ (x : ℕ). after x s.args.u) u ∙ at s (valid (high h)) e
 
 returns-6 : tie.Need-returns-6

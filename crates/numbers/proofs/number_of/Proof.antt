@@ -2,7 +2,7 @@
 use Prim.Native.Nat.{◌-◌, ◌<◌}
 use native.Mathlib.Omega.{arith}
 use borrow.Author.Rules.{rules}
-use Rattle.numbers.proofs.Getting.{Got, got-start, got-room, got-turn, got-pass, got-end}
+use Rattle.numbers.proofs.Getting.{Got, got_start, got_room, got_turn, got_pass, got_end}
 use Rattle.numbers.proofs.number_of.Statement.{statement}
 use Rattle.numbers.proofs.number_of.Tie as tie
 
@@ -24,14 +24,14 @@ number-of-spec =
     (tie.spec
     invariant-loop
     decreases-loop
-    (λ c. got-start _)
+    (λ c. got_start _)
     (λ c. omega arith)
-    (λ c. omega (arith, got-room _ _ _ c.before.before.loop.invariant (omega arith)))
+    (λ c. omega (arith, got_room _ _ _ c.before.before.loop.invariant (omega arith)))
     (λ c. omega arith)
     (λ c κs. search rules)
-    (λ c. omega (arith, byte c, got-room _ _ _ (place c).loop.invariant (omega arith)))
+    (λ c. omega (arith, byte c, got_room _ _ _ (place c).loop.invariant (omega arith)))
     (λ c. omega arith)
-    (λ c. got-turn _ _ _ _ (place c).loop.invariant (omega arith) (omega arith) (byte c) c.wide.ensures)
+    (λ c. got_turn _ _ _ _ (place c).loop.invariant (omega arith) (omega arith) (byte c) c.wide.ensures)
     (λ c. omega arith)
-    (λ c. got-pass _ _ _ c.before.before.loop.invariant (omega arith) (omega arith))
-    (λ c. got-end _ _ _ c.before.loop.invariant (omega arith)))
+    (λ c. got_pass _ _ _ c.before.before.loop.invariant (omega arith) (omega arith))
+    (λ c. got_end _ _ _ c.before.loop.invariant (omega arith)))

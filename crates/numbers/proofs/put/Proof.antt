@@ -2,7 +2,7 @@
 use Prim.Native.Nat.{◌-◌}
 use native.Mathlib.Omega.{arith}
 use lib.ListN.{length}
-use Rattle.numbers.proofs.Putting.{Putting, putting-none, putting-next, putting-all}
+use Rattle.numbers.proofs.Putting.{Putting, putting_none, putting-next, putting-all}
 use Rattle.numbers.proofs.put.Statement.{statement}
 use Rattle.numbers.proofs.put.Tie as tie
 
@@ -18,7 +18,7 @@ put_spec =
     (tie.spec
     invariant-loop
     decreases-loop
-    (λ c. putting-none _ _)
+    (λ c. putting_none _ _)
     (λ c. omega arith)
     (λ c. omega (arith, c.before.loop.invariant.size))
     (λ c. omega arith)

@@ -9,7 +9,7 @@ use borrow.Author.Rules.{rules}
 use Rattle.forms.specs.Forms.{rows_of}
 use Rattle.numbers.proofs.Filled.{filled_none}
 use Rattle.readings.specs.Reading.{Reading, reading}
-use Rattle.reader.specs.Decoded.{decodedOf}
+use Rattle.reader.specs.Decoded.{decoded_of}
 use Rattle.packed.proofs.Reading.{One, one, put_first}
 use Rattle.packed.proofs.read_one.Statement.{statement}
 use Rattle.packed.proofs.read_one.Tie as tie
@@ -28,7 +28,7 @@ returns c =
     let g = given r in
     let e : reading (rows_of a.form) a.m r.before.before.lesser.result a.src.now ≡ reading (rows_of a.form) a.m (min (length a.codes.now / 4) 1) a.src.now =
     ap (λ (k : ℕ). reading (rows_of a.form) a.m k a.src.now) r.before.before.lesser.ensures in
-    (g.answer ∙ ap decodedOf e, rw (sym (ap (λ (R : Reading). R.codes) e) ∙ g.no_code c.if1.true) (filled_none a.codes.now))
+    (g.answer ∙ ap decoded_of e, rw (sym (ap (λ (R : Reading). R.codes) e) ∙ g.no_code c.if1.true) (filled_none a.codes.now))
 
 returns-2 : tie.Need-returns-2
 returns-2 c =
@@ -38,7 +38,7 @@ returns-2 c =
     let g = given r in
     let e : reading (rows_of a.form) a.m r.before.before.lesser.result a.src.now ≡ reading (rows_of a.form) a.m (min (length a.codes.now / 4) 1) a.src.now =
     ap (λ (k : ℕ). reading (rows_of a.form) a.m k a.src.now) r.before.before.lesser.ensures in
-    (g.answer ∙ ap decodedOf e, rw (sym (ap (λ (R : Reading). R.codes) e) ∙ g.a-code u.before.before.if1.false) (put_first a.codes.now _ _ (omega (arith, g.few, r.before.before.lesser.ensures)) u.put.ensures))
+    (g.answer ∙ ap decoded_of e, rw (sym (ap (λ (R : Reading). R.codes) e) ∙ g.a_code u.before.before.if1.false) (put_first a.codes.now _ _ (omega (arith, g.few, r.before.before.lesser.ensures)) u.put.ensures))
 
 pub read-one-spec : {M : Type 1} → statement M
 read-one-spec =

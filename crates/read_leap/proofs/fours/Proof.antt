@@ -8,7 +8,7 @@ use lib.Seq.{sets-eq}
 use borrow.Author.Rules.{rules}
 use Rattle.readings.specs.Come.{as_is, Singles}
 use Rattle.readings.proofs.Come.{cells, single-ascii, singles-none, singles-same, singles-put, singles-more}
-use Rattle.read_leap.proofs.Four.{four-of, four-taken}
+use Rattle.read_leap.proofs.Four.{four_of, four_taken}
 use Rattle.read_leap.proofs.fours.Statement.{statement}
 use Rattle.read_leap.proofs.fours.Tie as tie
 
@@ -48,11 +48,11 @@ again c =
     let s = (bound l).before.before.before.args.s.now in
     let n = l.blocks2.n in
     let k : n + 4 ≤ length s = omega (arith, e.0) in
-    let f = four-of _ _ _ _ (sym c.before.before.before.before.before.all_IsAscii.ensures ∙ c.before.before.before.before.if3.true) in (
+    let f = four_of _ _ _ _ (sym c.before.before.before.before.before.all_IsAscii.ensures ∙ c.before.before.before.before.if3.true) in (
       c.before.before.put_four.auto.0 ∙ l.blocks2.inv.0,
       λ z r.
           let q = l.blocks2.inv.1 z r in
-          singles-more cells q (get_or s n 0 ∷ get_or s (n + 1) 0 ∷ get_or s (n + 2) 0 ∷ get_or s (n + 3) 0 ∷ []) _ k (four-taken s n k) (f.below n)
+          singles-more cells q (get_or s n 0 ∷ get_or s (n + 1) 0 ∷ get_or s (n + 2) 0 ∷ get_or s (n + 3) 0 ∷ []) _ k (four_taken s n k) (f.below n)
           (omega (arith, e.1, singles-same cells (come l), singles-same cells q)) (c.before.before.put_four.ensures ∙ ap (λ (v : List ℕ). take n l.blocks2.codes ++ v ++ drop (n + 4) l.blocks2.codes) f.ascii),
       omega arith,
       omega arith,

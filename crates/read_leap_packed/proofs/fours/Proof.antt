@@ -8,7 +8,7 @@ use borrow.Author.Rules.{rules}
 use Rattle.numbers.specs.Number.{laid_in}
 use Rattle.readings.specs.Come.{Singles}
 use Rattle.readings.proofs.Come.{single-ascii, singles-none, singles-same, singles-put, singles-more}
-use Rattle.read_leap.proofs.Four.{four-of, four-taken}
+use Rattle.read_leap.proofs.Four.{four_of, four_taken}
 use Rattle.read_leap_packed.proofs.Packed.{packed}
 use Rattle.read_leap_packed.proofs.fours.Statement.{statement}
 use Rattle.read_leap_packed.proofs.fours.Tie as tie
@@ -55,12 +55,12 @@ again c =
     let s = (bound l).before.before.before.args.s.now in
     let n = l.blocks2.n in
     let k : n + 4 ≤ length s = omega (arith, e.0) in
-    let f = four-of _ _ _ _ (sym c.before.before.before.before.before.all_IsAscii.ensures ∙ c.before.before.before.before.if3.true) in (
+    let f = four_of _ _ _ _ (sym c.before.before.before.before.before.all_IsAscii.ensures ∙ c.before.before.before.before.if3.true) in (
       c.before.before.put_four.auto.0 ∙ l.blocks2.inv.0,
       λ z r.
           let q = l.blocks2.inv.1 z r in
           let o = singles-same packed (come l) in
-          singles-more packed q (get_or s n 0 ∷ get_or s (n + 1) 0 ∷ get_or s (n + 2) 0 ∷ get_or s (n + 3) 0 ∷ []) _ k (four-taken s n k) (f.below n)
+          singles-more packed q (get_or s n 0 ∷ get_or s (n + 1) 0 ∷ get_or s (n + 2) 0 ∷ get_or s (n + 3) 0 ∷ []) _ k (four_taken s n k) (f.below n)
           (omega (arith, e.1, o, singles-same packed q)) (c.before.before.put_four.ensures ∙ ap (λ (v : List ℕ). take (n * 4) l.blocks2.codes ++ laid_in 4 v ++ drop (n * 4 + 16) l.blocks2.codes) f.ascii),
       omega arith,
       omega arith,

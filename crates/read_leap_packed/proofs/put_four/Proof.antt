@@ -47,11 +47,11 @@ module _ (o : List ℕ) (k a b c d : ℕ) (h : k + 16 ≤ length o) (p q r t : L
         f4.front ∙ rw (joined, m) refl
 
 -- by what was put
-four-put : (o : List ℕ) (k a b c d x y z u : ℕ) → x ≡ a → y ≡ b → z ≡ c → u ≡ d → k + 16 ≤ length o → (p q r t : List ℕ)
+four_put : (o : List ℕ) (k a b c d x y z u : ℕ) → x ≡ a → y ≡ b → z ≡ c → u ≡ d → k + 16 ≤ length o → (p q r t : List ℕ)
     → p ≡ take k o ++ quad x ++ drop (k + 4) o → q ≡ take (k + 4) p ++ quad y ++ drop (k + 4 + 4) p
     → r ≡ take (k + 8) q ++ quad z ++ drop (k + 8 + 4) q → t ≡ take (k + 12) r ++ quad u ++ drop (k + 12 + 4) r
     → t ≡ take k o ++ laid_in 4 (a ∷ b ∷ c ∷ d ∷ []) ++ drop (k + 16) o
-four-put o k a b c d x y z u e f g i h p q r t e1 e2 e3 e4 = rw (← e, ← f, ← g, ← i) (four o k x y z u h p q r t e1 e2 e3 e4)
+four_put o k a b c d x y z u e f g i h p q r t e1 e2 e3 e4 = rw (← e, ← f, ← g, ← i) (four o k x y z u h p q r t e1 e2 e3 e4)
 
 -- the places at which the four stand
 abbrev fourth : tie.After-slice-known5 → tie.After-put4
@@ -73,7 +73,7 @@ returns c =
     let c2 = second c3 in
     let c1 = first c2 in
     let a = c1.before.before.before.before.args in
-    four-put a.out.now a.at _ _ _ _ _ _ _ _ c1.before.wide.ensures c2.before.wide2.ensures c3.before.wide3.ensures c4.before.wide4.ensures
+    four_put a.out.now a.at _ _ _ _ _ _ _ _ c1.before.wide.ensures c2.before.wide2.ensures c3.before.wide3.ensures c4.before.wide4.ensures
     c1.before.before.before.before.pre _ _ _ _ c1.put.ensures c2.put2.ensures c3.put3.ensures c4.put4.ensures
 
 pub put-four-spec : {M : Type 1} → statement M

@@ -13,7 +13,7 @@ use Rattle.forms.specs.declared.Form.{Form}
 use Rattle.forms.specs.Forms.{rows_of}
 use Rattle.form.specs.Pattern.{bits}
 use Rattle.readings.specs.Reading.{turn, convert}
-use Rattle.reader.proofs.Places.{Reached, reached-start, reached-within, reached-next, ends-stop, ends-full, ends-used-up, Walking, walk-begun, NoneAt, walk-on, turn-whole, turn-waits, none-partial, none-bad, none-strict, none-lax}
+use Rattle.reader.proofs.Places.{Reached, reached-start, reached-within, reached-next, ends-stop, ends-full, ends-used-up, Walking, walk_begun, NoneAt, walk_on, turn_whole, turn_waits, none_partial, none_bad, none-strict, none_lax}
 use Rattle.reader.proofs.read_as.Statement.{statement}
 use Rattle.reader.proofs.read_as.Tie as tie
 
@@ -62,7 +62,7 @@ whole : (c : tie.Then5 invariant-bytes decreases-bytes invariant-places decrease
     ≡ convert (bits (take (size c.before.before) (rest c.before.before))) (size c.before.before)
 whole c =
     let b = c.before.before in
-    ⊎_elim (λ w. turn-whole b.bytes.invariant (mode (place b)) (sym w.1 ∙ c.if5.true)) (λ w. absurd (omega (arith, w.3, c.if5.true))) c.before.if2.branch
+    ⊎_elim (λ w. turn_whole b.bytes.invariant (mode (place b)) (sym w.1 ∙ c.if5.true)) (λ w. absurd (omega (arith, w.3, c.if5.true))) c.before.if2.branch
 
 none : (c : tie.Else5 invariant-bytes decreases-bytes invariant-places decreases-places)
     → NoneAt (form (place c.before.before)) (mode (place c.before.before)) (bytes (place c.before.before)) (place c.before.before).places.at
@@ -70,8 +70,8 @@ none : (c : tie.Else5 invariant-bytes decreases-bytes invariant-places decreases
 none c =
     let b = c.before.before in
     ⊎_elim
-    (λ w. none-bad b.bytes.invariant (mode (place b)) (omega (arith, w.0.taken, w.1, c.if5.false)))
-    (λ w. none-partial b.bytes.invariant (mode (place b)) w.0.left w.1.taken w.2.taken)
+    (λ w. none_bad b.bytes.invariant (mode (place b)) (omega (arith, w.0.taken, w.1, c.if5.false)))
+    (λ w. none_partial b.bytes.invariant (mode (place b)) w.0.left w.1.taken w.2.taken)
     c.before.if2.branch
 
 -- by the length that the code has
@@ -88,14 +88,14 @@ places-holds c = (reached-start _ _ _ _, refl)
 bytes-holds : tie.Need-bytes-init invariant-bytes decreases-bytes invariant-places decreases-places
 bytes-holds c =
     let p = c.before.before.before in
-    walk-begun (form p) (bytes p) p.places.at c.first.result (omega (arith, p.places.invariant.0.place))
+    walk_begun (form p) (bytes p) p.places.at c.first.result (omega (arith, p.places.invariant.0.place))
     (omega (arith, c.before.shared-slice-known2.given p.places.at))
     c.first.ensures
 
 bytes-again : tie.Need-bytes-preserved invariant-bytes decreases-bytes invariant-places decreases-places
 bytes-again c =
     let b = c.before.before.before.before in
-    walk-on b.bytes.invariant (mode (place b)) c.next.result (omega arith) (omega (arith, b.bytes.invariant.within)) c.next.ensures
+    walk_on b.bytes.invariant (mode (place b)) c.next.result (omega arith) (omega (arith, b.bytes.invariant.within)) c.next.ensures
 
 places-again : tie.Need-places-preserved invariant-bytes decreases-bytes invariant-places decreases-places
 places-again c =
@@ -110,7 +110,7 @@ places-again-2 c =
     let u = c.before.before.before.before.before in
     let p = place u.before.before.before in (
       rw (c.before.stray.ensures, c.taken.ensures)
-          (reached-next p.places.inv.0 _ _ (none-lax (none-by u) c.before.before.before.before.if7.false) (room-left p c.before.before.before.if8.false)),
+          (reached-next p.places.inv.0 _ _ (none_lax (none-by u) c.before.before.before.before.if7.false) (room-left p c.before.before.before.if8.false)),
       p.places.inv.1,
     )
 
@@ -123,7 +123,7 @@ returns-2 : tie.Need-returns-2 invariant-bytes decreases-bytes invariant-places 
 returns-2 c =
     let b = c.before.before.before in
     let p = place b in
-    rw p.places.inv.1 (ends-stop p.places.inv.0 2 0 (turn-waits b.bytes.invariant (mode p) c.before.before.if2.false c.before.if3.true c.if4.false))
+    rw p.places.inv.1 (ends-stop p.places.inv.0 2 0 (turn_waits b.bytes.invariant (mode p) c.before.before.if2.false c.before.if3.true c.if4.false))
 
 returns-3 : tie.Need-returns-3 invariant-bytes decreases-bytes invariant-places decreases-places
 returns-3 c =
@@ -140,7 +140,7 @@ returns-5 : tie.Need-returns-5 invariant-bytes decreases-bytes invariant-places 
 returns-5 c =
     let u = c.before.before in
     let p = place u.before.before.before in
-    rw p.places.inv.1 (ends-full p.places.inv.0 _ _ (none-lax (none-by u) c.before.if7.false) (c.if8.true ∙ p.places.inv.0.same))
+    rw p.places.inv.1 (ends-full p.places.inv.0 _ _ (none_lax (none-by u) c.before.if7.false) (c.if8.true ∙ p.places.inv.0.same))
 
 pub read-as-spec : {M : Type 1} → statement M
 read-as-spec =
@@ -180,7 +180,7 @@ read-as-spec =
     (λ c.
     let u = c.before.before.before.before.before in
     let p = place u.before.before.before in
-    omega (arith, c.taken.ensures, reached-within p.places.inv.0 _ _ (none-lax (none-by u) c.before.before.before.before.if7.false)))
+    omega (arith, c.taken.ensures, reached-within p.places.inv.0 _ _ (none_lax (none-by u) c.before.before.before.before.if7.false)))
     (λ c. let p = place c.before.before.before.before.before.before.before.before in omega (arith, room-left p c.before.before.before.if8.false))
     places-again-2
     (λ c. c.before.places.invariant.0.same)

@@ -4,12 +4,12 @@ use mathlib.Core.List.{[], ◌∷◌}
 use native.Mathlib.Omega.{arith}
 use borrow.Author.Rules.{rules}
 use Rattle.form.specs.Table.{◌to◌}
-use Rattle.reason.proofs.Signs.{opens-short, opens_one}
+use Rattle.reason.proofs.Signs.{opens_short, opens_one}
 use Rattle.reason.proofs.first_in.Statement.{statement}
 use Rattle.reason.proofs.first_in.Tie as tie
 
 returns : tie.Need-returns
-returns c = let a = c.before.before.args in sym (opens-short (a.lo to a.hi ∷ []) a.s.now (omega (arith, c.if1.true)))
+returns c = let a = c.before.before.args in sym (opens_short (a.lo to a.hi ∷ []) a.s.now (omega (arith, c.if1.true)))
 
 returns-2 : tie.Need-returns-2
 returns-2 c =

@@ -7,19 +7,19 @@ use borrow.Author.Rules.{rules}
 use borrow.Author.Rules.{part_to_end}
 use Rattle.codings.specs.declared.Coding.TheVariants.{Utf8}
 use Rattle.reader.specs.declared.Decoded.{Decoded}
-use Rattle.reader.specs.Decoded.{decodedOf}
+use Rattle.reader.specs.Decoded.{decoded_of}
 use Rattle.readings.proofs.Theorems.{within}
 use Rattle.rest.proofs.decode_rest.Statement.{statement}
 use Rattle.rest.proofs.decode_rest.Tie as tie
 
 consumed-within : (c : tie.After-decode) → c.decode.result.consumed ≤ length c.before.before.before.before.args.s.now
-unfolding decodedOf
+unfolding decoded_of
 consumed-within c =
     let a = c.before.before.before.before.args in
     rw c.decode.ensures.0 (within Utf8 a.flags (length a.codes.now) a.s.now).0
 
 returns : tie.Need-returns
-unfolding decodedOf
+unfolding decoded_of
 returns c =
     let d = c.before.before.before in
     let s = d.before.before.before.before.args.s in

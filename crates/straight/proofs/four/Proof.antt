@@ -2,7 +2,7 @@
 use mathlib.Core.Path.{◌∙◌}
 use native.Mathlib.Omega.{arith}
 use borrow.Author.Rules.{rules}
-use Rattle.straight.proofs.Shapes.{lost-four, found-four, plain-beyond, surro-all, cesu-beyond}
+use Rattle.straight.proofs.Shapes.{lost_four, found_four, plain-beyond, surro_all, cesu-beyond}
 use Rattle.straight.proofs.four.Statement.{statement}
 use Rattle.straight.proofs.four.Tie as tie
 
@@ -20,46 +20,46 @@ abbrev from-code : tie.After-code4 → tie.Start
 from-code c = from-d c.before.before.before.before
 
 returns : tie.Need-returns
-returns c = let a = c.before.before.before.args in c.found.ensures ∙ lost-four a.form a.s.now (omega arith) (λ x l h g. omega arith)
+returns c = let a = c.before.before.before.args in c.found.ensures ∙ lost_four a.form a.s.now (omega arith) (λ x l h g. omega arith)
 
 returns-2 : tie.Need-returns-2
-returns-2 c = let a = (from-b c.before.before).args in c.found2.ensures ∙ lost-four a.form a.s.now (omega arith) (λ x l h g. omega arith)
+returns-2 c = let a = (from-b c.before.before).args in c.found2.ensures ∙ lost_four a.form a.s.now (omega arith) (λ x l h g. omega arith)
 
 returns-3 : tie.Need-returns-3
-returns-3 c = let a = (from-b c.before.before.before).args in c.found3.ensures ∙ lost-four a.form a.s.now (omega arith) (λ x l h g. omega arith)
+returns-3 c = let a = (from-b c.before.before.before).args in c.found3.ensures ∙ lost_four a.form a.s.now (omega arith) (λ x l h g. omega arith)
 
 returns-4 : tie.Need-returns-4
-returns-4 c = let a = (from-c c.before.before).args in c.found4.ensures ∙ lost-four a.form a.s.now (omega arith) (λ x l h g. omega arith)
+returns-4 c = let a = (from-c c.before.before).args in c.found4.ensures ∙ lost_four a.form a.s.now (omega arith) (λ x l h g. omega arith)
 
 returns-5 : tie.Need-returns-5
-returns-5 c = let a = (from-c c.before.before.before).args in c.found5.ensures ∙ lost-four a.form a.s.now (omega arith) (λ x l h g. omega arith)
+returns-5 c = let a = (from-c c.before.before.before).args in c.found5.ensures ∙ lost_four a.form a.s.now (omega arith) (λ x l h g. omega arith)
 
 returns-6 : tie.Need-returns-6
-returns-6 c = let a = (from-d c.before.before).args in c.found6.ensures ∙ lost-four a.form a.s.now (omega arith) (λ x l h g. omega arith)
+returns-6 c = let a = (from-d c.before.before).args in c.found6.ensures ∙ lost_four a.form a.s.now (omega arith) (λ x l h g. omega arith)
 
 returns-7 : tie.Need-returns-7
-returns-7 c = let a = (from-d c.before.before.before).args in c.found7.ensures ∙ lost-four a.form a.s.now (omega arith) (λ x l h g. omega arith)
+returns-7 c = let a = (from-d c.before.before.before).args in c.found7.ensures ∙ lost_four a.form a.s.now (omega arith) (λ x l h g. omega arith)
 
 returns-8 : tie.Need-returns-8
-returns-8 c = let a = (from-code c.before.before).args in c.found8.ensures ∙ lost-four a.form a.s.now (omega arith) (λ x l h g. omega arith)
+returns-8 c = let a = (from-code c.before.before).args in c.found8.ensures ∙ lost_four a.form a.s.now (omega arith) (λ x l h g. omega arith)
 
 returns-9 : tie.Need-returns-9
-returns-9 c = let a = (from-code c.before.before.before).args in c.found9.ensures ∙ lost-four a.form a.s.now (omega arith) (λ x l h g. omega arith)
+returns-9 c = let a = (from-code c.before.before.before).args in c.found9.ensures ∙ lost_four a.form a.s.now (omega arith) (λ x l h g. omega arith)
 
 returns-10 : tie.Need-returns-10
 returns-10 c =
     let a = (from-code c.before.before.before.before.before).args in
     let x = c.before.before.before.before.before.code4.result in
-    c.found10.ensures ∙ found-four a.form a.s.now x (omega arith) (omega arith) (plain-beyond a.form x c.before.enum_told.given.1 (omega arith) (omega arith))
+    c.found10.ensures ∙ found_four a.form a.s.now x (omega arith) (omega arith) (plain-beyond a.form x c.before.enum_told.given.1 (omega arith) (omega arith))
 
 returns-11 : tie.Need-returns-11
 returns-11 c =
     let a = (from-code c.before.before.before.before.before).args in
     let x = c.before.before.before.before.before.code4.result in
-    c.found11.ensures ∙ found-four a.form a.s.now x (omega arith) (omega arith) (surro-all a.form x c.before.enum-told2.given.1 (omega arith))
+    c.found11.ensures ∙ found_four a.form a.s.now x (omega arith) (omega arith) (surro_all a.form x c.before.enum-told2.given.1 (omega arith))
 
 returns-12 : tie.Need-returns-12
-returns-12 c = let a = (from-code c.before.before.before.before.before).args in c.found12.ensures ∙ lost-four a.form a.s.now (omega arith) (λ x l h g. cesu-beyond a.form x c.before.enum-told3.given.1 (omega arith) g)
+returns-12 c = let a = (from-code c.before.before.before.before.before).args in c.found12.ensures ∙ lost_four a.form a.s.now (omega arith) (λ x l h g. cesu-beyond a.form x c.before.enum-told3.given.1 (omega arith) g)
 
 pub four-spec : {M : Type 1} → statement M
 four-spec =

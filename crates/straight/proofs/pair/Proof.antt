@@ -5,7 +5,7 @@ use native.Mathlib.Omega.{arith}
 use lib.ListN.{get_or}
 use borrow.Author.Rules.{rules}
 use Rattle.form.specs.Table.{◌to◌, tail, In}
-use Rattle.straight.proofs.Shapes.{lost-pair, found-pair}
+use Rattle.straight.proofs.Shapes.{lost_pair, found-pair}
 use Rattle.straight.proofs.pair.Statement.{statement}
 use Rattle.straight.proofs.pair.Tie as tie
 
@@ -23,43 +23,43 @@ returns : tie.Need-returns
 returns c =
     let b = c.before.before.before in
     let (p, q, _, _, e) = b.requires in
-    c.found.ensures ∙ lost-pair b.args.s.now b.args.high p q e (λ l h. omega arith)
+    c.found.ensures ∙ lost_pair b.args.s.now b.args.high p q e (λ l h. omega arith)
 
 returns-2 : tie.Need-returns-2
 returns-2 c =
     let b = c.before.before.before.before in
     let (p, q, _, _, e) = b.requires in
-    c.found2.ensures ∙ lost-pair b.args.s.now b.args.high p q e (λ l h. omega arith)
+    c.found2.ensures ∙ lost_pair b.args.s.now b.args.high p q e (λ l h. omega arith)
 
 returns-3 : tie.Need-returns-3
 returns-3 c =
     let b = from-d c.before.before in
     let (p, q, _, _, e) = b.pre in
-    c.found3.ensures ∙ lost-pair b.args.s.now b.args.high p q e (λ l h. omega arith)
+    c.found3.ensures ∙ lost_pair b.args.s.now b.args.high p q e (λ l h. omega arith)
 
 returns-4 : tie.Need-returns-4
 returns-4 c =
     let b = from-e c.before.before in
     let (p, q, _, _, e) = b.pre in
-    c.found4.ensures ∙ lost-pair b.args.s.now b.args.high p q e (λ l h. omega arith)
+    c.found4.ensures ∙ lost_pair b.args.s.now b.args.high p q e (λ l h. omega arith)
 
 returns-5 : tie.Need-returns-5
 returns-5 c =
     let b = from-e c.before.before.before in
     let (p, q, _, _, e) = b.pre in
-    c.found5.ensures ∙ lost-pair b.args.s.now b.args.high p q e (λ l h. omega arith)
+    c.found5.ensures ∙ lost_pair b.args.s.now b.args.high p q e (λ l h. omega arith)
 
 returns-6 : tie.Need-returns-6
 returns-6 c =
     let b = from-f c.before.before in
     let (p, q, _, _, e) = b.pre in
-    c.found6.ensures ∙ lost-pair b.args.s.now b.args.high p q e (λ l h. omega arith)
+    c.found6.ensures ∙ lost_pair b.args.s.now b.args.high p q e (λ l h. omega arith)
 
 returns-7 : tie.Need-returns-7
 returns-7 c =
     let b = from-f c.before.before.before in
     let (p, q, _, _, e) = b.pre in
-    c.found7.ensures ∙ lost-pair b.args.s.now b.args.high p q e (λ l h. omega arith)
+    c.found7.ensures ∙ lost_pair b.args.s.now b.args.high p q e (λ l h. omega arith)
 
 -- the bytes of a high surrogate, and its low ten bits
 high-bytes : (a b x high : ℕ) → In (0xD800 to 0xDBFF) high → In tail b → In tail x → high ≡ (a - 0xE0) * 0x1000 + (b - 0x80) * 0x40 + (x - 0x80)

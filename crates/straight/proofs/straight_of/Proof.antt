@@ -3,12 +3,12 @@ use mathlib.Core.Path.{◌∙◌}
 use native.Mathlib.Omega.{arith}
 use borrow.Author.Rules.{rules}
 use lib.ListN.{get_or}
-use Rattle.straight.proofs.Shapes.{lost-none, lost-one, found-one, has-low}
+use Rattle.straight.proofs.Shapes.{lost_none, lost_one, found-one, has_low}
 use Rattle.straight.proofs.straight_of.Statement.{statement}
 use Rattle.straight.proofs.straight_of.Tie as tie
 
 returns : tie.Need-returns
-returns c = let a = c.before.before.before.args in c.found.ensures ∙ lost-none a.form a.s.now c.before.if1.true
+returns c = let a = c.before.before.before.args in c.found.ensures ∙ lost_none a.form a.s.now c.before.if1.true
 
 -- the start, from where the first byte is read
 abbrev from-a : tie.After-shared-slice-known2 → tie.Start
@@ -18,10 +18,10 @@ returns-2 : tie.Need-returns-2
 returns-2 c =
     let a = (from-a c.before.before).args in
     let x = get_or a.s.now 0 0 in
-    c.found2.ensures ∙ found-one a.form a.s.now x (omega arith) (omega arith) (has-low a.form x (omega arith))
+    c.found2.ensures ∙ found-one a.form a.s.now x (omega arith) (omega arith) (has_low a.form x (omega arith))
 
 returns-3 : tie.Need-returns-3
-returns-3 c = let a = (from-a c.before.before.before).args in c.found3.ensures ∙ lost-one a.form a.s.now (omega arith)
+returns-3 c = let a = (from-a c.before.before.before).args in c.found3.ensures ∙ lost_one a.form a.s.now (omega arith)
 
 returns-4 : tie.Need-returns-4
 returns-4 c = let a = (from-a c.before.before.before.before).args in c.two.ensures a.form

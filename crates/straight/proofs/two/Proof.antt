@@ -2,7 +2,7 @@
 use mathlib.Core.Path.{◌∙◌}
 use native.Mathlib.Omega.{arith}
 use borrow.Author.Rules.{rules}
-use Rattle.straight.proofs.Shapes.{lost-two, found-two, has-low}
+use Rattle.straight.proofs.Shapes.{lost_two, found-two, has_low}
 use Rattle.straight.proofs.two.Statement.{statement}
 use Rattle.straight.proofs.two.Tie as tie
 
@@ -11,19 +11,19 @@ abbrev from-b : tie.After-shared-slice-known2 → tie.Start
 from-b c = c.before.before.before
 
 returns : tie.Need-returns
-returns c f = let a = c.before.before.before.args in c.found.ensures ∙ lost-two f a.s.now (omega arith) (λ x l h g. omega arith)
+returns c f = let a = c.before.before.before.args in c.found.ensures ∙ lost_two f a.s.now (omega arith) (λ x l h g. omega arith)
 
 returns-2 : tie.Need-returns-2
-returns-2 c f = let a = (from-b c.before.before).args in c.found2.ensures ∙ lost-two f a.s.now (omega arith) (λ x l h g. omega arith)
+returns-2 c f = let a = (from-b c.before.before).args in c.found2.ensures ∙ lost_two f a.s.now (omega arith) (λ x l h g. omega arith)
 
 returns-3 : tie.Need-returns-3
-returns-3 c f = let a = (from-b c.before.before.before).args in c.found3.ensures ∙ lost-two f a.s.now (omega arith) (λ x l h g. omega arith)
+returns-3 c f = let a = (from-b c.before.before.before).args in c.found3.ensures ∙ lost_two f a.s.now (omega arith) (λ x l h g. omega arith)
 
 returns-4 : tie.Need-returns-4
 returns-4 c f =
     let a = (from-b c.before.before.before.before.before).args in
     let x = c.before.code2.result in
-    c.found4.ensures ∙ found-two f a.s.now x (omega arith) (omega arith) (has-low f x (omega arith))
+    c.found4.ensures ∙ found-two f a.s.now x (omega arith) (omega arith) (has_low f x (omega arith))
 
 pub two-spec : {M : Type 1} → statement M
 two-spec =

@@ -1,6 +1,6 @@
 -- Assumes nothing.
 use borrow.Author.Rules.{rules}
-use Rattle.utf8b_index.proofs.Answers.{filled-all, filled_none}
+use Rattle.utf8b_index.proofs.Answers.{filled_all, filled_none}
 use Rattle.utf8b_index.proofs.utf8b_index_build.Statement.{statement}
 use Rattle.utf8b_index.proofs.utf8b_index_build.Tie as tie
 
@@ -10,7 +10,7 @@ utf8b-index-build-spec =
     (tie.spec
     (λ c κs. search rules)
     (λ c. search rules)
-    (λ c. let d = c.before.before.before.before in filled-all _ _ _ _ d.before.before.before.before.args.records.now d.build.ensures c.if1.true)
+    (λ c. let d = c.before.before.before.before in filled_all _ _ _ _ d.before.before.before.before.args.records.now d.build.ensures c.if1.true)
     (λ c κs. search rules)
     (λ c. search rules)
     (λ c. let d = c.before.before.before.before.before in filled_none _ _ _ _ _ d.before.before.before.before.args.records.now d.build.ensures c.before.if1.false c.wide.ensures))

@@ -50,7 +50,7 @@ blocks-out-spec =
     (λ c κs. search rules)
     (λ c. run-start _ _ _ _ c.lesser.ensures)
     (λ c. c.blocks2.invariant.within)
-    (λ c. scaled_Fits _ _ 4 (omega (arith, (four c).0)) (start c).well-formed.0.1)
+    (λ c. scaled_Fits _ _ 4 (omega (arith, (four c).0)) (start c).well_formed.0.1)
     (λ c. omega (arith, (four c.before).0))
     (λ c. omega (arith, (four c.before).1))
     (λ c. scaled_Fits _ _ 4 (omega (arith, (four c.before).0)) (start c.before).good.0.1)

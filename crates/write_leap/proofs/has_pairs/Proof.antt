@@ -3,7 +3,7 @@ use mathlib.Core.Logic.{inl, inr}
 use mathlib.Core.Bool.{true≢false}
 use native.Mathlib.Omega.{arith}
 use borrow.Author.Rules.{rules}
-use Rattle.form.proofs.Sequences.{plain-scalar, surro-all}
+use Rattle.form.proofs.Sequences.{plain-scalar, surro_all}
 use Rattle.write_leap.proofs.has_pairs.Statement.{statement}
 use Rattle.write_leap.proofs.has_pairs.Tie as tie
 
@@ -15,5 +15,5 @@ has-pairs-spec =
     (λ c. search rules)
     (λ c. search rules)
     (λ c e x h g. rw c.enum_told.given.1 (plain-scalar x (inr (inl (omega arith)))))
-    (λ c e x h g. rw c.enum-told2.given.1 (surro-all x g))
+    (λ c e x h g. rw c.enum-told2.given.1 (surro_all x g))
     (λ c e. absurd (true≢false e)))

@@ -9,11 +9,11 @@ use borrow.Author.Rules.{scaled_Fits}
 use borrow.Author.Rules.{part_to_end}
 use Rattle.form.specs.Pattern.{pattern}
 use Rattle.forms.specs.Forms.{rows_of}
-use Rattle.forms.proofs.Forms.{form-writer}
+use Rattle.forms.proofs.Forms.{form_writer}
 use Rattle.writings.specs.Singled.{Ascii, Single}
 use Rattle.writings.proofs.Come.{onward-start}
-use Rattle.writings.proofs.Leaps.{pattern-two, pattern-three, pattern-four, writes-ascii, writes-escape, writes-single}
-use Rattle.writings.proofs.Leaping.{Leaping, leaping-start, leaping-one, leaping-short, leaping-long, leapt-within, leaping-run}
+use Rattle.writings.proofs.Leaps.{pattern-two, pattern-three, pattern_four, writes-ascii, writes-escape, writes-single}
+use Rattle.writings.proofs.Leaping.{Leaping, leaping_start, leaping-one, leaping-short, leaping-long, leapt-within, leaping-run}
 use Rattle.write_leap.proofs.leap.Statement.{statement}
 use Rattle.write_leap.proofs.leap.Tie as tie
 
@@ -69,7 +69,7 @@ first c =
     let p = d.before in
     let a = (begin p).args in
     leaping-one p.before.before.codes.inv (code d) (some p) refl c.low.result c.low.ensures
-    (λ t. writes-ascii (rows_of a.form) (form-writer a.form) a.m (code d) t c.before.if3.true) (omega (arith, four p))
+    (λ t. writes-ascii (rows_of a.form) (form_writer a.form) a.m (code d) t c.before.if3.true) (omega (arith, four p))
 
 abbrev run_at : tie.After-slice-known2 invariant-codes decreases-codes → tie.After-low invariant-codes decreases-codes
 run_at c = c.before.before.before.before.before
@@ -92,7 +92,7 @@ codes-again : tie.Need-codes-preserved invariant-codes decreases-codes
 codes-again c =
     let l = run_at c in
     let a = (begin (low-at l).before).args in
-    leaping-run (first l) Ascii _ _ _ (next (low-at l).before) (lent (low-at l).before) c.before.before.run_out.ensures (writes-ascii (rows_of a.form) (form-writer a.form) a.m)
+    leaping-run (first l) Ascii _ _ _ (next (low-at l).before) (lent (low-at l).before) c.before.before.run_out.ensures (writes-ascii (rows_of a.form) (form_writer a.form) a.m)
 
 -- ---- two to four bytes
 
@@ -101,7 +101,7 @@ codes-again-2 c =
     let d = c.before.before.before.before.before.before in
     let x = code d in
     let p = d.before in
-    leaping-short p.before.before.codes.invariant x (some p) refl (form-writer (begin p).args.form) _ 2 (omega (arith, c.before.before.before.before.if4.true)) (λ u. omega (arith, c.before.before.before.before.if4.true))
+    leaping-short p.before.before.codes.invariant x (some p) refl (form_writer (begin p).args.form) _ 2 (omega (arith, c.before.before.before.before.if4.true)) (λ u. omega (arith, c.before.before.before.before.if4.true))
     (ap length (pattern-two x (omega (arith, c.before.before.before.before.before.if3.false)) (omega (arith, c.before.before.before.before.if4.true)))) (omega (arith, four p)) c.before.before.put2.ensures
 
 codes-again-3 : tie.Need-codes-preserved-3 invariant-codes decreases-codes
@@ -109,7 +109,7 @@ codes-again-3 c =
     let d = c.before.before.before.before.before.before.before in
     let x = code d in
     let p = d.before in
-    leaping-short p.before.before.codes.invariant x (some p) refl (form-writer (begin p).args.form) _ 3 (omega (arith, c.before.before.before.before.if5.true)) (λ u. omega (arith, c.before.before.before.before.if5.true))
+    leaping-short p.before.before.codes.invariant x (some p) refl (form_writer (begin p).args.form) _ 3 (omega (arith, c.before.before.before.before.if5.true)) (λ u. omega (arith, c.before.before.before.before.if5.true))
     (ap length (pattern-three x (omega (arith, c.before.before.before.before.before.if4.false)) (omega (arith, c.before.before.before.before.if5.true)))) (omega (arith, four p)) c.before.before.put3.ensures
 
 codes-again-4 : tie.Need-codes-preserved-4 invariant-codes decreases-codes
@@ -117,15 +117,15 @@ codes-again-4 c =
     let d = c.before.before.before.before.before.before.before.before.before.before.before in
     let x = code d in
     let p = d.before in
-    leaping-long p.before.before.codes.invariant x (some p) refl (form-writer (begin p).args.form) _ (pattern x) 4 (omega (arith, c.before.before.before.before.before.before.before.if6.true)) (omega (arith, c.before.before.before.before.before.before.if7.false))
-    (c.before.before.before.before.before.has-pairs.ensures c.before.before.before.before.if8.false x (omega (arith, c.before.before.before.before.before.before.before.if6.true)) (omega (arith, c.before.before.before.before.before.before.if7.false))) (ap length (pattern-four x (omega (arith, c.before.before.before.before.before.before.before.if6.true)))) (four p) c.before.before.put4.ensures
+    leaping-long p.before.before.codes.invariant x (some p) refl (form_writer (begin p).args.form) _ (pattern x) 4 (omega (arith, c.before.before.before.before.before.before.before.if6.true)) (omega (arith, c.before.before.before.before.before.before.if7.false))
+    (c.before.before.before.before.before.has-pairs.ensures c.before.before.before.before.if8.false x (omega (arith, c.before.before.before.before.before.before.before.if6.true)) (omega (arith, c.before.before.before.before.before.before.if7.false))) (ap length (pattern_four x (omega (arith, c.before.before.before.before.before.before.before.if6.true)))) (four p) c.before.before.put4.ensures
 
 codes-again-5 : tie.Need-codes-preserved-5 invariant-codes decreases-codes
 codes-again-5 c =
     let d = c.before.before.before.before.before.before.before.before.before in
     let x = code d in
     let p = d.before in
-    leaping-short p.before.before.codes.invariant x (some p) refl (form-writer (begin p).args.form) _ 3 (omega (arith, c.before.before.before.before.before.if6.false)) (λ u. omega (arith, c.before.before.before.before.if9.true))
+    leaping-short p.before.before.codes.invariant x (some p) refl (form_writer (begin p).args.form) _ 3 (omega (arith, c.before.before.before.before.before.if6.false)) (λ u. omega (arith, c.before.before.before.before.if9.true))
     (ap length (pattern-three x (omega (arith, c.before.before.before.before.if9.true)) (omega (arith, c.before.before.before.before.before.if6.false)))) (omega (arith, four p)) c.before.before.put32.ensures
 
 -- ---- escapes
@@ -142,7 +142,7 @@ escaped c =
     let p = d.before in
     let a = (begin p).args in
     leaping-one p.before.before.codes.inv (code d) (some p) refl c.low2.result c.low2.ensures
-    (λ t. writes-escape (rows_of a.form) (form-writer a.form) a.m (code d) t (lax c).1 (lax c).0 (c.before.before.no-escape.ensures c.before.if11.false)) (omega (arith, four p))
+    (λ t. writes-escape (rows_of a.form) (form_writer a.form) a.m (code d) t (lax c).1 (lax c).0 (c.before.before.no-escape.ensures c.before.if11.false)) (omega (arith, four p))
 
 abbrev escapes-at : tie.After-slice-known7 invariant-codes decreases-codes → tie.After-low2 invariant-codes decreases-codes
 escapes-at c = c.before.before.before.before.before
@@ -160,7 +160,7 @@ codes-again-6 c =
     let l = escapes-at c in
     let a = (begin (escape-at l).before).args in
     leaping-run (escaped l) Single _ _ _ (next (escape-at l).before) (lent (escape-at l).before) c.before.before.escapes-out.ensures
-    (λ x t. writes-single (rows_of a.form) (form-writer a.form) a.m x t (lax l).1 (lax l).0)
+    (λ x t. writes-single (rows_of a.form) (form_writer a.form) a.m x t (lax l).1 (lax l).0)
 
 pub leap-spec : {M : Type 1} → statement M
 leap-spec =
@@ -169,9 +169,9 @@ leap-spec =
     invariant-codes
     decreases-codes
     (λ c. onward-start _ _ _ _ _ _)
-    (λ c. leaping-start _ _ _ _ _ _ (omega arith))
+    (λ c. leaping_start _ _ _ _ _ _ (omega arith))
     (λ c. c.before.codes.invariant.room)
-    (λ c. scaled_Fits _ _ 4 (some c) (begin c).well-formed.1.1.0.1)
+    (λ c. scaled_Fits _ _ 4 (some c) (begin c).well_formed.1.1.0.1)
     (λ c. some c.before)
     (λ c κs. tt)
     (λ c. omega (arith, four (low-at c).before))

@@ -31,7 +31,7 @@ ones-out-spec =
     decreases-ones
     (λ c κs. search rules)
     (λ c. run-start _ _ _ _ c.lesser.ensures)
-    (λ c. scaled_Fits _ _ 4 (run-some c.before.ones.invariant (some c)).0 (start c).well-formed.0.1)
+    (λ c. scaled_Fits _ _ 4 (run-some c.before.ones.invariant (some c)).0 (start c).well_formed.0.1)
     (λ c. (run-some c.before.before.ones.invariant (some c.before)).0)
     (λ c κs. search rules)
     (λ c. (run-some (place c).before.ones.invariant (some (place c))).1)

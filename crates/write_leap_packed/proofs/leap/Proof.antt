@@ -5,16 +5,16 @@ use mathlib.Core.List.{List}
 use Prim.Native.Nat.{ℕ, ◌+◌, ◌-◌, ◌*◌, ◌/◌, ◌≤◌, ◌<◌}
 use native.Mathlib.Omega.{arith}
 use lib.ListN.{length, get_or, set, take, drop, length-set}
-use Rattle.form.specs.Pattern.{pattern, cesu-pattern}
+use Rattle.form.specs.Pattern.{pattern, cesu_pattern}
 use Rattle.form.proofs.Cesu.{cesu-long}
 use Rattle.forms.specs.Forms.{rows_of}
-use Rattle.forms.proofs.Forms.{form-writer}
+use Rattle.forms.proofs.Forms.{form_writer}
 use Rattle.writings.specs.Singled.{Ascii, Single}
 use Rattle.writings.proofs.Come.{onward-start}
-use Rattle.writings.proofs.Leaps.{pattern-two, pattern-three, pattern-four, writes-ascii, writes-escape, writes-single}
+use Rattle.writings.proofs.Leaps.{pattern-two, pattern-three, pattern_four, writes-ascii, writes-escape, writes-single}
 use Rattle.quads.specs.Bytes.{codes_of}
 use Rattle.quads.proofs.Bytes.{codes-length}
-use Rattle.writings.proofs.Leaping.{Leaping, leaping-start, leaping-one, leaping-short, leaping-long, leapt-within, leaping-run}
+use Rattle.writings.proofs.Leaping.{Leaping, leaping_start, leaping-one, leaping-short, leaping-long, leapt-within, leaping-run}
 use Rattle.write_leap_packed.proofs.Codes.{whole-at, code_of, codes-lent}
 use Rattle.write_leap_packed.proofs.leap.Statement.{statement}
 use Rattle.write_leap_packed.proofs.leap.Tie as tie
@@ -75,7 +75,7 @@ first c =
     let p = d.before in
     let a = (begin p).args in
     leaping-one p.before.before.codes.inv d.code_at.result (some p) (is_code d) c.low.result c.low.ensures
-    (λ t. writes-ascii (rows_of a.form) (form-writer a.form) a.m d.code_at.result t c.before.if3.true) (omega (arith, four p))
+    (λ t. writes-ascii (rows_of a.form) (form_writer a.form) a.m d.code_at.result t c.before.if3.true) (omega (arith, four p))
 
 abbrev run_at : tie.After-slice-known2 invariant-codes decreases-codes → tie.After-low invariant-codes decreases-codes
 run_at c = c.before.before.before.before.before
@@ -99,7 +99,7 @@ codes-again : tie.Need-codes-preserved invariant-codes decreases-codes
 codes-again c =
     let l = run_at c in
     let a = (begin (low-at l).before).args in
-    leaping-run (first l) Ascii _ _ _ (next (low-at l).before) (lent (low-at l).before) c.before.before.run_out.ensures (writes-ascii (rows_of a.form) (form-writer a.form) a.m)
+    leaping-run (first l) Ascii _ _ _ (next (low-at l).before) (lent (low-at l).before) c.before.before.run_out.ensures (writes-ascii (rows_of a.form) (form_writer a.form) a.m)
 
 -- ---- two to four bytes
 
@@ -108,7 +108,7 @@ codes-again-2 c =
     let d = c.before.before.before.before.before.before in
     let x = d.code_at.result in
     let p = d.before in
-    leaping-short p.before.before.codes.invariant x (some p) (is_code d) (form-writer (begin p).args.form) _ 2 (omega (arith, c.before.before.before.before.if4.true)) (λ u. omega (arith, c.before.before.before.before.if4.true))
+    leaping-short p.before.before.codes.invariant x (some p) (is_code d) (form_writer (begin p).args.form) _ 2 (omega (arith, c.before.before.before.before.if4.true)) (λ u. omega (arith, c.before.before.before.before.if4.true))
     (ap length (pattern-two x (omega (arith, c.before.before.before.before.before.if3.false)) (omega (arith, c.before.before.before.before.if4.true)))) (omega (arith, four p)) c.before.before.put2.ensures
 
 codes-again-3 : tie.Need-codes-preserved-3 invariant-codes decreases-codes
@@ -116,7 +116,7 @@ codes-again-3 c =
     let d = c.before.before.before.before.before.before.before in
     let x = d.code_at.result in
     let p = d.before in
-    leaping-short p.before.before.codes.invariant x (some p) (is_code d) (form-writer (begin p).args.form) _ 3 (omega (arith, c.before.before.before.before.if5.true)) (λ u. omega (arith, c.before.before.before.before.if5.true))
+    leaping-short p.before.before.codes.invariant x (some p) (is_code d) (form_writer (begin p).args.form) _ 3 (omega (arith, c.before.before.before.before.if5.true)) (λ u. omega (arith, c.before.before.before.before.if5.true))
     (ap length (pattern-three x (omega (arith, c.before.before.before.before.before.if4.false)) (omega (arith, c.before.before.before.before.if5.true)))) (omega (arith, four p)) c.before.before.put3.ensures
 
 codes-again-4 : tie.Need-codes-preserved-4 invariant-codes decreases-codes
@@ -127,7 +127,7 @@ codes-again-4 c =
     let p = d.before in
     let l : 0xFFFF < x = omega (arith, h.before.before.if6.true) in
     let g : x ≤ 0x10FFFF = omega (arith, h.before.if7.false) in
-    leaping-long p.before.before.codes.invariant x (some p) (is_code d) (form-writer (begin p).args.form) _ (cesu-pattern x) 6 l g (h.has-pairs.ensures x l g ∙ rw c.before.before.before.before.before.if8.true refl)
+    leaping-long p.before.before.codes.invariant x (some p) (is_code d) (form_writer (begin p).args.form) _ (cesu_pattern x) 6 l g (h.has-pairs.ensures x l g ∙ rw c.before.before.before.before.before.if8.true refl)
     (ap length (cesu-long x _ _ refl refl (omega arith) g)) (omega (arith, c.before.before.before.before.if9.false, p.before.before.codes.invariant.room)) c.before.before.put6.ensures
 
 codes-again-5 : tie.Need-codes-preserved-5 invariant-codes decreases-codes
@@ -138,15 +138,15 @@ codes-again-5 c =
     let p = d.before in
     let l : 0xFFFF < x = omega (arith, h.before.before.if6.true) in
     let g : x ≤ 0x10FFFF = omega (arith, h.before.if7.false) in
-    leaping-long p.before.before.codes.invariant x (some p) (is_code d) (form-writer (begin p).args.form) _ (pattern x) 4 l g (h.has-pairs.ensures x l g ∙ rw c.before.before.before.before.if8.false refl)
-    (ap length (pattern-four x (omega arith))) (four p) c.before.before.put4.ensures
+    leaping-long p.before.before.codes.invariant x (some p) (is_code d) (form_writer (begin p).args.form) _ (pattern x) 4 l g (h.has-pairs.ensures x l g ∙ rw c.before.before.before.before.if8.false refl)
+    (ap length (pattern_four x (omega arith))) (four p) c.before.before.put4.ensures
 
 codes-again-6 : tie.Need-codes-preserved-6 invariant-codes decreases-codes
 codes-again-6 c =
     let d = c.before.before.before.before.before.before.before.before.before in
     let x = d.code_at.result in
     let p = d.before in
-    leaping-short p.before.before.codes.invariant x (some p) (is_code d) (form-writer (begin p).args.form) _ 3 (omega (arith, c.before.before.before.before.before.if6.false)) (λ u. omega (arith, c.before.before.before.before.if10.true))
+    leaping-short p.before.before.codes.invariant x (some p) (is_code d) (form_writer (begin p).args.form) _ 3 (omega (arith, c.before.before.before.before.before.if6.false)) (λ u. omega (arith, c.before.before.before.before.if10.true))
     (ap length (pattern-three x (omega (arith, c.before.before.before.before.if10.true)) (omega (arith, c.before.before.before.before.before.if6.false)))) (omega (arith, four p)) c.before.before.put32.ensures
 
 -- ---- escapes
@@ -163,7 +163,7 @@ escaped c =
     let p = d.before in
     let a = (begin p).args in
     leaping-one p.before.before.codes.inv d.code_at.result (some p) (is_code d) c.low2.result c.low2.ensures
-    (λ t. writes-escape (rows_of a.form) (form-writer a.form) a.m d.code_at.result t (lax c).1 (lax c).0 (c.before.before.no-escape.ensures c.before.if12.false)) (omega (arith, four p))
+    (λ t. writes-escape (rows_of a.form) (form_writer a.form) a.m d.code_at.result t (lax c).1 (lax c).0 (c.before.before.no-escape.ensures c.before.if12.false)) (omega (arith, four p))
 
 abbrev escapes-at : tie.After-slice-known8 invariant-codes decreases-codes → tie.After-low2 invariant-codes decreases-codes
 escapes-at c = c.before.before.before.before.before
@@ -181,7 +181,7 @@ codes-again-7 c =
     let l = escapes-at c in
     let a = (begin (escape-at l).before).args in
     leaping-run (escaped l) Single _ _ _ (next (escape-at l).before) (lent (escape-at l).before) c.before.before.escapes-out.ensures
-    (λ x t. writes-single (rows_of a.form) (form-writer a.form) a.m x t (lax l).1 (lax l).0)
+    (λ x t. writes-single (rows_of a.form) (form_writer a.form) a.m x t (lax l).1 (lax l).0)
 
 pub leap-spec : {M : Type 1} → statement M
 leap-spec =
@@ -190,7 +190,7 @@ leap-spec =
     invariant-codes
     decreases-codes
     (λ c. onward-start _ _ _ _ _ _)
-    (λ c. leaping-start _ _ _ _ _ _ (omega arith))
+    (λ c. leaping_start _ _ _ _ _ _ (omega arith))
     (λ c. c.before.codes.invariant.room)
     (λ c. omega (arith, whole c))
     (λ c κs. omega (arith, whole c))

@@ -20,9 +20,9 @@ pasted d n b zero h g = rw (← paste-zero d n b, add-zero n) at (paste-suc d n 
 pasted d n b (suc j) h g = rw (pasted d n b j (omega arith) (omega arith)) (paste-suc d n b (suc j) 0 (omega arith) g)
 
 -- where the byte at j is the last
-all-stored : (c : tie.Start) (j : ℕ) → c.args.t3.count ≡ suc j
+all_stored : (c : tie.Start) (j : ℕ) → c.args.t3.count ≡ suc j
     → stored c.args.dst.now c.args.n c.args.t3.bytes j ≡ paste c.args.dst.now c.args.n c.args.t3.bytes c.args.t3.count
-all-stored c j e =
+all_stored c j e =
     let a = c.args in
     let six : length a.t3.bytes ≡ 6 = search rules in
     rw e (pasted a.dst.now a.n a.t3.bytes j (omega arith) (omega arith))
@@ -34,29 +34,29 @@ put_spec =
     (λ c. search rules)
     (λ c. search rules)
     (λ c. simp length-set refl)
-    (λ c. all-stored c.before.before 0 c.if1.true)
+    (λ c. all_stored c.before.before 0 c.if1.true)
     (λ c. search rules)
     (λ c. search rules)
     (λ c. simp length-set (omega arith))
     (λ c. simp length-set refl)
-    (λ c. all-stored c.before.before.before.before 1 c.if2.true)
+    (λ c. all_stored c.before.before.before.before 1 c.if2.true)
     (λ c. search rules)
     (λ c. search rules)
     (λ c. simp length-set (omega arith))
     (λ c. simp length-set refl)
-    (λ c. all-stored c.before.before.before.before.before.before 2 c.if3.true)
+    (λ c. all_stored c.before.before.before.before.before.before 2 c.if3.true)
     (λ c. search rules)
     (λ c. search rules)
     (λ c. simp length-set (omega arith))
     (λ c. simp length-set refl)
-    (λ c. all-stored c.before.before.before.before.before.before.before.before 3 c.if4.true)
+    (λ c. all_stored c.before.before.before.before.before.before.before.before 3 c.if4.true)
     (λ c. search rules)
     (λ c. search rules)
     (λ c. simp length-set (omega arith))
     (λ c. simp length-set refl)
-    (λ c. all-stored c.before.before.before.before.before.before.before.before.before.before 4 c.if5.true)
+    (λ c. all_stored c.before.before.before.before.before.before.before.before.before.before 4 c.if5.true)
     (λ c. search rules)
     (λ c. search rules)
     (λ c. simp length-set (omega arith))
     (λ c. simp length-set refl)
-    (λ c. all-stored c.before.before.before.before.before.before.before.before.before.before.before 5 (omega arith)))
+    (λ c. all_stored c.before.before.before.before.before.before.before.before.before.before.before 5 (omega arith)))

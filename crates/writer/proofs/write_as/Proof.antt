@@ -5,11 +5,11 @@ use native.Mathlib.Omega.{arith}
 use lib.ListN.{length, get_or}
 use borrow.Author.Rules.{rules, scaled_Fits}
 use Rattle.forms.specs.Forms.{rows_of}
-use Rattle.sequence.specs.Leaf.{codedOf}
+use Rattle.sequence.specs.Leaf.{coded_of}
 use Rattle.writings.proofs.Given.{given}
 use Rattle.writer.proofs.Offered.{some-offered}
-use Rattle.writer.proofs.Places.{Reached, reached-start, reached-end, reached-refused, reached-full, reached-next, answered}
-use Rattle.forms.proofs.Forms.{form-writer}
+use Rattle.writer.proofs.Places.{Reached, reached-start, reached_end, reached-refused, reached-full, reached-next, answered}
+use Rattle.forms.proofs.Forms.{form_writer}
 use Rattle.writer.proofs.write_as.Statement.{statement}
 use Rattle.writer.proofs.write_as.Tie as tie
 
@@ -33,7 +33,7 @@ code c = get_or (start (place c)).args.codes.now (place c).codes.at 0
 is_code : (c : tie.After-written invariant-codes decreases-codes) → (place c).codes.at < length (start (place c)).args.codes.now
 is_code c = omega (arith, (place c).codes.invariant.place)
 
-is-given : (c : tie.After-written invariant-codes decreases-codes) → c.written.result ≡ codedOf (given (rows_of (start (place c)).args.form) (start (place c)).args.m (code c))
+is-given : (c : tie.After-written invariant-codes decreases-codes) → c.written.result ≡ coded_of (given (rows_of (start (place c)).args.form) (start (place c)).args.m (code c))
 is-given c = c.written.ensures
 
 -- where there is room for its bytes
@@ -59,7 +59,7 @@ put-requires : tie.Need-put-requires invariant-codes decreases-codes
 put-requires c κs =
     let w = with-room c in
     let r = (place w).codes.inv in
-    let o = some-offered (rows_of (start (place w)).args.form) (form-writer (start (place w)).args.form) (start (place w)).args.m (code w) w.written.result (is-given w) c.before.before.before.if2.false in
+    let o = some-offered (rows_of (start (place w)).args.form) (form_writer (start (place w)).args.form) (start (place w)).args.m (code w) w.written.result (is-given w) c.before.before.before.if2.false in
     (omega arith, o.most, omega (arith, r.room, r.same))
 
 add-n : tie.Need-overflow-add-n invariant-codes decreases-codes
@@ -75,13 +75,13 @@ codes-again : tie.Need-codes-preserved invariant-codes decreases-codes
 codes-again c =
     let w = with-room (turn c) in
     rw c.before.before.before.put.ensures
-    (reached-next (place w).codes.inv (form-writer (start (place w)).args.form) w.written.result (is_code w) (is-given w) (turn c).before.before.before.if2.false (omega arith))
+    (reached-next (place w).codes.inv (form_writer (start (place w)).args.form) w.written.result (is_code w) (is-given w) (turn c).before.before.before.if2.false (omega arith))
 
 same_length : tie.Need-same-length invariant-codes decreases-codes
 same_length c = c.before.codes.invariant.same
 
 returns : tie.Need-returns invariant-codes decreases-codes
-returns c = let d = c.before in answered 0 d.codes.invariant (reached-end d.codes.invariant c.if1.true)
+returns c = let d = c.before in answered 0 d.codes.invariant (reached_end d.codes.invariant c.if1.true)
 
 same-length-2 : tie.Need-same-length-2 invariant-codes decreases-codes
 same-length-2 c = (place c.before.before).codes.inv.same
@@ -90,7 +90,7 @@ returns-2 : tie.Need-returns-2 invariant-codes decreases-codes
 returns-2 c =
     let w = c.before.before in
     let r = (place w).codes.invariant in
-    answered 3 r (reached-refused r (form-writer (start (place w)).args.form) w.written.result (is_code w) (is-given w) c.if2.true)
+    answered 3 r (reached-refused r (form_writer (start (place w)).args.form) w.written.result (is_code w) (is-given w) c.if2.true)
 
 same-length-3 : tie.Need-same-length-3 invariant-codes decreases-codes
 same-length-3 c = (place c.before.before.before.before).codes.inv.same
@@ -99,7 +99,7 @@ returns-3 : tie.Need-returns-3 invariant-codes decreases-codes
 returns-3 c =
     let w = c.before.before.before.before in
     let r = (place w).codes.invariant in
-    answered 1 r (reached-full r (form-writer (start (place w)).args.form) w.written.result (is_code w) (is-given w) c.before.before.if2.false (omega arith))
+    answered 1 r (reached-full r (form_writer (start (place w)).args.form) w.written.result (is_code w) (is-given w) c.before.before.if2.false (omega arith))
 
 pub write-as-spec : {M : Type 1} → statement M
 write-as-spec =

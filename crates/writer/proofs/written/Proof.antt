@@ -7,26 +7,26 @@ use native.Mathlib.Omega.{arith}
 use borrow.Author.Rules.{rules}
 use Rattle.forms.specs.Forms.{rows_of}
 use Rattle.sequence.specs.declared.Coded.{Coded}
-use Rattle.sequence.specs.Leaf.{codedOf}
+use Rattle.sequence.specs.Leaf.{coded_of}
 use Rattle.writings.proofs.Given.{given, given-ascii, given-high, given-surro, given-strict, given-escape, given-other}
-use Rattle.forms.proofs.Forms.{form-writer}
+use Rattle.forms.proofs.Forms.{form_writer}
 use Rattle.writer.proofs.written.Statement.{statement}
 use Rattle.writer.proofs.written.Tie as tie
 
 -- a result that is the bytes of w, where w is given
-is-given : (s : tie.Start) (w : List ℕ) (r : Coded) → r ≡ codedOf w → given (rows_of s.args.form) s.args.m s.args.c ≡ w
-    → r ≡ codedOf (given (rows_of s.args.form) s.args.m s.args.c)
-is-given s w r e h = e ∙ ap codedOf (sym h)
+is-given : (s : tie.Start) (w : List ℕ) (r : Coded) → r ≡ coded_of w → given (rows_of s.args.form) s.args.m s.args.c ≡ w
+    → r ≡ coded_of (given (rows_of s.args.form) s.args.m s.args.c)
+is-given s w r e h = e ∙ ap coded_of (sym h)
 
 returns : tie.Need-returns
-unfolding codedOf
-returns c = let s = c.before in let a = s.args in is-given s (a.c ∷ []) _ refl (given-ascii (rows_of a.form) (form-writer a.form) a.m a.c (omega arith))
+unfolding coded_of
+returns c = let s = c.before in let a = s.args in is-given s (a.c ∷ []) _ refl (given-ascii (rows_of a.form) (form_writer a.form) a.m a.c (omega arith))
 
 returns-2 : tie.Need-returns-2
 returns-2 c =
     let s = c.before.before.before in
     let a = s.args in
-    is-given s _ _ c.bytes_of.ensures (given-high (rows_of a.form) (form-writer a.form) a.m a.c (omega arith))
+    is-given s _ _ c.bytes_of.ensures (given-high (rows_of a.form) (form_writer a.form) a.m a.c (omega arith))
 
 -- ---- from 80 to FFFF
 
@@ -40,22 +40,22 @@ returns-3 : tie.Need-returns-3
 returns-3 c =
     let d = c.before.before in
     let a = (start d).args in
-    is-given (start d) _ _ c.bytes-of2.ensures (given-surro (rows_of a.form) (form-writer a.form) a.m a.c (few d) c.before.if3.true)
+    is-given (start d) _ _ c.bytes-of2.ensures (given-surro (rows_of a.form) (form_writer a.form) a.m a.c (few d) c.before.if3.true)
 
 returns-4 : tie.Need-returns-4
 returns-4 c =
     let d = c.before.before.before in
     let a = (start d).args in
-    is-given (start d) _ _ c.bytes-of3.ensures (given-strict (rows_of a.form) (form-writer a.form) a.m a.c (few d) c.before.before.if3.false c.before.if4.true)
+    is-given (start d) _ _ c.bytes-of3.ensures (given-strict (rows_of a.form) (form_writer a.form) a.m a.c (few d) c.before.before.if3.false c.before.if4.true)
 
 returns-5 : tie.Need-returns-5
-unfolding codedOf
+unfolding coded_of
 returns-5 c =
     let e = c.before.before in
     let d = e.before.before in
     let a = (start d).args in
     is-given (start d) ((a.c - 0xDC00) ∷ []) _ refl
-    (given-escape (rows_of a.form) (form-writer a.form) a.m a.c (few d) e.before.if3.false e.if4.false (omega arith))
+    (given-escape (rows_of a.form) (form_writer a.form) a.m a.c (few d) e.before.if3.false e.if4.false (omega arith))
 
 returns-6 : tie.Need-returns-6
 returns-6 c =
@@ -63,7 +63,7 @@ returns-6 c =
     let d = e.before.before in
     let a = (start d).args in
     is-given (start d) _ _ c.bytes-of4.ensures
-    (given-other (rows_of a.form) (form-writer a.form) a.m a.c (few d) e.before.if3.false e.if4.false
+    (given-other (rows_of a.form) (form_writer a.form) a.m a.c (few d) e.before.if3.false e.if4.false
     (λ h. ⊎_elim (λ w. omega arith) (λ w. omega (arith, w.1.left)) c.before.if5.branch))
 
 pub written-spec : {M : Type 1} → statement M
