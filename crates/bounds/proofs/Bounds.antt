@@ -1,5 +1,5 @@
 -- Items at the boundaries between items. Assumes nothing.
-use mathlib.Core.Path.{◌≡◌, refl, sym, ap, ◌∙◌}
+use mathlib.Core.Path.{◌≡◌, refl, sym, ap, ◌∙◌, subst}
 use mathlib.Core.List.{List, [], ◌∷◌, ◌++◌}
 use Prim.Native.Nat.{ℕ, zero, suc, ◌+◌, ◌≤◌, ◌<◌}
 use native.Mathlib.Nat.{add_assoc, add-zero}
@@ -49,7 +49,7 @@ module _ (F : Form) (o : T (open? F)) where
       let i = item (scan F (b ∷ s)) b s in
       let e : p + 0 + span i ≡ suc p + more i = omega (arith, span_more F b s o) in
       let l : p + suc (length s) ≡ suc p + length s = omega arith in
-      (omega arith, rw (e, l) (places-inside s (more i) (suc p)))
+      (omega arith, simp e (subst (λ (n : ℕ). All (λ q. q < n) (places (suc p + more i) (items F (more i) s))) (sym l) (places-inside s (more i) (suc p))))
 
 pub places-from : (j p : ℕ) (l : List Item) → drop j (places p l) ≡ places (p + place j l) (drop j l)
 places-from zero p l = ap (λ (k : ℕ). places k l) (sym (add-zero p))

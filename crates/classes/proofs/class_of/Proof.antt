@@ -10,8 +10,8 @@ use Rattle.classes.proofs.class_of.Tie as tie
 
 returns : tie.Need-returns
 returns c =
-    let b = c.before.before.args.b in
-    c.digit.ensures ∙ ap (λ (n : ℕ). digit_of n (b % 16)) c.before.classes.ensures ∙ chart_class b (search rules)
+    let b = c.args.b in
+    c.digit.ensures ∙ ap (λ (n : ℕ). digit_of n (b % 16)) c.classes.ensures ∙ chart_class b (search rules)
 
-pub class-of-spec : {M : Type 1} → statement M
-class-of-spec = tie.close (tie.spec (λ c κs. search rules) (λ c. search rules) (λ c κs. search rules) returns)
+pub class_of_spec : {M : Type 1} → statement M
+class_of_spec = tie.close (tie.spec (λ c κs. search rules) (λ c. search rules) (λ c κs. search rules) returns)

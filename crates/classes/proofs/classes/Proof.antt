@@ -5,72 +5,72 @@ use Rattle.classes.proofs.Rows.{row_computed, none_below}
 use Rattle.classes.proofs.classes.Statement.{statement}
 use Rattle.classes.proofs.classes.Tie as tie
 
-returns : tie.Need-returns
+returns : tie.Need-returns-in-0
 unfolding ranges class_of classes_of
-returns c = row_computed classes_of 0x0 _ _ c.match.keys1 tt
+returns c = row_computed classes_of 0x0 _ _ c.in-0.is tt
 
-returns-2 : tie.Need-returns-2
+returns-2 : tie.Need-returns-in-1
 unfolding ranges class_of classes_of
-returns-2 c = row_computed classes_of 0x1 _ _ c.match.keys2 tt
+returns-2 c = row_computed classes_of 0x1 _ _ c.in-1.is tt
 
-returns-3 : tie.Need-returns-3
+returns-3 : tie.Need-returns-in-2
 unfolding ranges class_of classes_of
-returns-3 c = row_computed classes_of 0x2 _ _ c.match.keys3 tt
+returns-3 c = row_computed classes_of 0x2 _ _ c.in-2.is tt
 
-returns-4 : tie.Need-returns-4
+returns-4 : tie.Need-returns-in-3
 unfolding ranges class_of classes_of
-returns-4 c = row_computed classes_of 0x3 _ _ c.match.keys4 tt
+returns-4 c = row_computed classes_of 0x3 _ _ c.in-3.is tt
 
-returns-5 : tie.Need-returns-5
+returns-5 : tie.Need-returns-in-4
 unfolding ranges class_of classes_of
-returns-5 c = row_computed classes_of 0x4 _ _ c.match.keys5 tt
+returns-5 c = row_computed classes_of 0x4 _ _ c.in-4.is tt
 
-returns-6 : tie.Need-returns-6
+returns-6 : tie.Need-returns-in-5
 unfolding ranges class_of classes_of
-returns-6 c = row_computed classes_of 0x5 _ _ c.match.keys6 tt
+returns-6 c = row_computed classes_of 0x5 _ _ c.in-5.is tt
 
-returns-7 : tie.Need-returns-7
+returns-7 : tie.Need-returns-in-6
 unfolding ranges class_of classes_of
-returns-7 c = row_computed classes_of 0x6 _ _ c.match.keys7 tt
+returns-7 c = row_computed classes_of 0x6 _ _ c.in-6.is tt
 
-returns-8 : tie.Need-returns-8
+returns-8 : tie.Need-returns-in-7
 unfolding ranges class_of classes_of
-returns-8 c = row_computed classes_of 0x7 _ _ c.match.keys8 tt
+returns-8 c = row_computed classes_of 0x7 _ _ c.in-7.is tt
 
-returns-9 : tie.Need-returns-9
+returns-9 : tie.Need-returns-in-8
 unfolding ranges class_of classes_of
-returns-9 c = row_computed classes_of 0x8 _ _ c.match.keys9 tt
+returns-9 c = row_computed classes_of 0x8 _ _ c.in-8.is tt
 
-returns-10 : tie.Need-returns-10
+returns-10 : tie.Need-returns-in-9
 unfolding ranges class_of classes_of
-returns-10 c = row_computed classes_of 0x9 _ _ c.match.keys10 tt
+returns-10 c = row_computed classes_of 0x9 _ _ c.in-9.is tt
 
-returns-11 : tie.Need-returns-11
+returns-11 : tie.Need-returns-in-10
 unfolding ranges class_of classes_of
-returns-11 c = row_computed classes_of 0xA _ _ c.match.keys11 tt
+returns-11 c = row_computed classes_of 0xA _ _ c.in-10.is tt
 
-returns-12 : tie.Need-returns-12
+returns-12 : tie.Need-returns-in-11
 unfolding ranges class_of classes_of
-returns-12 c = row_computed classes_of 0xB _ _ c.match.keys12 tt
+returns-12 c = row_computed classes_of 0xB _ _ c.in-11.is tt
 
-returns-13 : tie.Need-returns-13
+returns-13 : tie.Need-returns-in-12
 unfolding ranges class_of classes_of
-returns-13 c = row_computed classes_of 0xC _ _ c.match.keys13 tt
+returns-13 c = row_computed classes_of 0xC _ _ c.in-12.is tt
 
-returns-14 : tie.Need-returns-14
+returns-14 : tie.Need-returns-in-13
 unfolding ranges class_of classes_of
-returns-14 c = row_computed classes_of 0xD _ _ c.match.keys14 tt
+returns-14 c = row_computed classes_of 0xD _ _ c.in-13.is tt
 
-returns-15 : tie.Need-returns-15
+returns-15 : tie.Need-returns-in-14
 unfolding ranges class_of classes_of
-returns-15 c = row_computed classes_of 0xE _ _ c.match.keys15 tt
+returns-15 c = row_computed classes_of 0xE _ _ c.in-14.is tt
 
-returns-16 : tie.Need-returns-16
+returns-16 : tie.Need-returns-in_default
 unfolding ranges class_of classes_of
-returns-16 c = row_computed classes_of 0xF c.before.args.high _ (omega (arith, c.before.requires, none_below 15 _ c.match.rest)) tt
+returns-16 c = row_computed classes_of 0xF c.args.high _ (omega (arith, c.requires, none_below 15 _ c.in_default.in_default-own.rest)) tt
 
-pub classes-spec : {M : Type 1} → statement M
-classes-spec =
+pub classes_spec : {M : Type 1} → statement M
+classes_spec =
     tie.close
     (tie.spec
     returns

@@ -8,13 +8,13 @@ use Rattle.classes.specs.Class.{digit_of}
 use Rattle.classes.proofs.digit.Statement.{statement}
 use Rattle.classes.proofs.digit.Tie as tie
 
-returns : tie.Need-returns
+returns : tie.Need-returns-then-place-gt15
 unfolding digit_of
 returns c = search (lt-ltb, le-ltb)
 
-returns-2 : tie.Need-returns-2
+returns-2 : tie.Need-returns
 unfolding digit_of
-returns-2 c = let p = c.before.args.place in let h : p < 16 = omega arith in rw (lt-ltb p 16 h) refl
+returns-2 c = let p = c.args.place in let h : p < 16 = omega arith in rw (lt-ltb p 16 h) refl
 
-pub digit-spec : {M : Type 1} → statement M
-digit-spec = tie.close (tie.spec returns (λ c. search rules) (λ c. search rules) returns-2)
+pub digit_spec : {M : Type 1} → statement M
+digit_spec = tie.close (tie.spec returns (λ c. search rules) (λ c. search rules) returns-2)

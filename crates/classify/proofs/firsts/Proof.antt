@@ -9,17 +9,17 @@ use Rattle.classify.specs.Stage.{stages, stage_of, nexts_of}
 use Rattle.classify.proofs.firsts.Statement.{statement}
 use Rattle.classify.proofs.firsts.Tie as tie
 
-returns : tie.Need-returns
+returns : tie.Need-returns-in-Plain
 unfolding plain ranges stages stage_of nexts_of
-returns c = row_computed nexts_of plain _ _ (ap rows_of c.enum_told.given.1) tt
+returns c = row_computed nexts_of plain _ _ (ap rows_of c.in-Plain.is) tt
 
-returns-2 : tie.Need-returns-2
+returns-2 : tie.Need-returns-in-Surro
 unfolding surro ranges stages stage_of nexts_of
-returns-2 c = row_computed nexts_of surro _ _ (ap rows_of c.enum-told2.given.1) tt
+returns-2 c = row_computed nexts_of surro _ _ (ap rows_of c.in-Surro.is) tt
 
-returns-3 : tie.Need-returns-3
+returns-3 : tie.Need-returns-in-Cesu
 unfolding cesu ranges stages stage_of nexts_of
-returns-3 c = row_computed nexts_of cesu _ _ (ap rows_of c.enum-told3.given.1) tt
+returns-3 c = row_computed nexts_of cesu _ _ (ap rows_of c.in-Cesu.is) tt
 
-pub firsts-spec : {M : Type 1} → statement M
-firsts-spec = tie.close (tie.spec (λ c. search rules) (λ c. search rules) (λ c. search rules) returns returns-2 returns-3)
+pub firsts_spec : {M : Type 1} → statement M
+firsts_spec = tie.close (tie.spec (λ c. search rules) (λ c. search rules) (λ c. search rules) returns returns-2 returns-3)

@@ -5,13 +5,13 @@ use Rattle.codings.specs.Codings.{reader_refuses_in}
 use Rattle.codings.proofs.reader_refuses_in.Statement.{statement}
 use Rattle.codings.proofs.reader_refuses_in.Tie as tie
 
-returns : tie.Need-returns
+returns : tie.Need-returns-then-refuses_surro
 unfolding reader_refuses_in
-returns c = rw (sym c.before.refuses_surro.ensures ∙ c.if1.true) refl
+returns c = rw (sym c.refuses_surro.ensures ∙ c.if-refuses_surro.true) refl
 
-returns-2 : tie.Need-returns-2
+returns-2 : tie.Need-returns
 unfolding reader_refuses_in
-returns-2 c = rw (sym c.before.before.refuses_surro.ensures ∙ c.before.if1.false) c.reader_refuses.ensures
+returns-2 c = rw (sym c.refuses_surro.ensures ∙ c.if-refuses_surro.false) c.reader_refuses.ensures
 
-pub reader-refuses-in-spec : {M : Type 1} → statement M
-reader-refuses-in-spec = tie.close (tie.spec (λ c κs. search rules) returns (λ c κs. search rules) returns-2)
+pub reader_refuses_in_spec : {M : Type 1} → statement M
+reader_refuses_in_spec = tie.close (tie.spec (λ c κs. search rules) returns (λ c κs. search rules) returns-2)

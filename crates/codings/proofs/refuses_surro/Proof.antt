@@ -11,8 +11,8 @@ use Rattle.codings.proofs.refuses_surro.Tie as tie
 in_cesu8 : (K : Coding) (m n : Flags) → K ≡ Cesu8 → m ≡ n → m.surro ≡ refuses_surro K n
 in_cesu8 K m n k e = rw (k, e) refl
 
-returns-2 : tie.Need-returns-2
-returns-2 c = in_cesu8 _ _ _ c.before.enum-told2.given.1 c.flags_of.ensures
+returns-2 : tie.Need-returns-in-Cesu8
+returns-2 c = in_cesu8 _ _ _ c.in-Cesu8.is c.flags_of.ensures
 
-pub refuses-surro-spec : {M : Type 1} → statement M
-refuses-surro-spec = tie.close (tie.spec (λ c. search rules) (λ c. search rules) (λ c κs. search rules) (λ c. search rules) returns-2)
+pub refuses_surro_spec : {M : Type 1} → statement M
+refuses_surro_spec = tie.close (tie.spec (λ c. search rules) (λ c. search rules) (λ c κs. search rules) (λ c. search rules) returns-2)

@@ -6,10 +6,10 @@ use Rattle.numbers.proofs.Putting.{Putting, putting_none, putting-next, putting-
 use Rattle.numbers.proofs.put.Statement.{statement}
 use Rattle.numbers.proofs.put.Tie as tie
 
-abbrev invariant-loop : tie.invariant-loop
+abbrev invariant-loop : tie.invariant-loop-i
 invariant-loop n out₀ left₀ i₀ i-end out left i = Putting n (length out₀) out left i
 
-abbrev decreases-loop : tie.decreases-loop
+abbrev decreases-loop : tie.decreases-loop-i
 decreases-loop n out₀ left₀ i₀ i-end out left i = length out₀ - i
 
 pub put_spec : {M : Type 1} → statement M
@@ -20,9 +20,9 @@ put_spec =
     decreases-loop
     (λ c. putting_none _ _)
     (λ c. omega arith)
-    (λ c. omega (arith, c.before.loop.invariant.size))
+    (λ c. omega (arith, c.loop-i.invariant.size))
     (λ c. omega arith)
     (λ c. omega arith)
-    (λ c. putting-next _ _ _ _ _ c.before.loop.invariant c.loop-test.true)
-    (λ c. c.before.loop.invariant.size)
-    (λ c. putting-all _ _ _ _ _ c.before.loop.invariant (omega (arith, c.before.loop.invariant.within))))
+    (λ c. putting-next _ _ _ _ _ c.loop-i.invariant c.loop-i-test.true)
+    (λ c. c.loop-i.invariant.size)
+    (λ c. putting-all _ _ _ _ _ c.loop-i.invariant (omega (arith, c.loop-i.invariant.within))))

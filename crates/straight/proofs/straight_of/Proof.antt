@@ -7,33 +7,33 @@ use Rattle.straight.proofs.Shapes.{lost_none, lost_one, found-one, has_low}
 use Rattle.straight.proofs.straight_of.Statement.{statement}
 use Rattle.straight.proofs.straight_of.Tie as tie
 
-returns : tie.Need-returns
-returns c = let a = c.before.before.before.args in c.found.ensures ∙ lost_none a.form a.s.now c.before.if1.true
+returns : tie.Need-returns-then-s-eq0
+returns c = let a = c.args in c.found.ensures ∙ lost_none a.form a.s.now c.if-s-eq0.true
 
 -- the start, from where the first byte is read
-abbrev from-a : tie.After-shared-slice-known2 → tie.Start
+abbrev from-a : tie.After-shared_slice_known-2-1 → tie.Start
 from-a c = c.before.before.before
 
-returns-2 : tie.Need-returns-2
+returns-2 : tie.Need-returns-then-a-lt128
 returns-2 c =
     let a = (from-a c.before.before).args in
     let x = get_or a.s.now 0 0 in
-    c.found2.ensures ∙ found-one a.form a.s.now x (omega arith) (omega arith) (has_low a.form x (omega arith))
+    c.found-then-a-lt128.ensures ∙ found-one a.form a.s.now x (omega arith) (omega arith) (has_low a.form x (omega arith))
 
-returns-3 : tie.Need-returns-3
-returns-3 c = let a = (from-a c.before.before.before).args in c.found3.ensures ∙ lost_one a.form a.s.now (omega arith)
+returns-3 : tie.Need-returns-then-a-lt194
+returns-3 c = let a = (from-a c.before.before.before).args in c.found-then-a-lt194.ensures ∙ lost_one a.form a.s.now (omega arith)
 
-returns-4 : tie.Need-returns-4
+returns-4 : tie.Need-returns-then-a-lt224
 returns-4 c = let a = (from-a c.before.before.before.before).args in c.two.ensures a.form
 
 three-requires : tie.Need-three-requires
-three-requires c κs = omega (arith, c.before.before.before.before.shared-slice-known2.given 0)
+three-requires c κs = omega (arith, c.shared_slice_known-2-1.given 0)
 
 four-requires : tie.Need-four-requires
-four-requires c κs = omega (arith, c.before.before.before.before.shared-slice-known2.given 0)
+four-requires c κs = omega (arith, c.shared_slice_known-2-1.given 0)
 
-pub straight-of-spec : {M : Type 1} → statement M
-straight-of-spec =
+pub straight_of_spec : {M : Type 1} → statement M
+straight_of_spec =
     tie.close
     (tie.spec
     (λ c κs. search rules)
