@@ -12,7 +12,7 @@ use state::Record;
 use validity::Kind;
 
 // What a reading step answers.
-#[derive(Drop)]
+#[derive(Clone, Copy)]
 pub enum Answer {
     // The state is invalid or not this step's. Nothing is consumed.
     Refused,
@@ -29,7 +29,7 @@ pub enum Answer {
 }
 
 // What a step gives before its width counts.
-#[derive(Drop)]
+#[derive(Clone, Copy)]
 pub enum Reading {
     // The answer of every width.
     Done(Answer),
@@ -42,14 +42,14 @@ pub enum Reading {
 }
 
 // The next state: after Code that before the code's units, after Trail and Low that once the unit is out.
-#[derive(Drop)]
+#[derive(Clone, Copy)]
 pub struct Advanced {
     pub reading: Reading,
     pub next: Record,
 }
 
 // The bytes held, and after them the first of the input.
-#[derive(Drop)]
+#[derive(Clone, Copy)]
 struct Window {
     bytes: [u8; 14],
     count: usize,

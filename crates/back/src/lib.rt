@@ -11,7 +11,7 @@ use forms::Form;
 use state::Record;
 
 // What a 16-bit unit gives.
-#[derive(Drop)]
+#[derive(Clone, Copy)]
 pub enum Back {
     // The state is invalid or not the step back's. Nothing is consumed.
     Refused,
@@ -24,7 +24,7 @@ pub enum Back {
 }
 
 // The answer, its bytes and how many, and the next state; unused places are zero.
-#[derive(Drop)]
+#[derive(Clone, Copy)]
 pub struct Written {
     pub answer: Back,
     pub count: usize,

@@ -9,7 +9,7 @@ ghost use Rattle.codings.specs.Codings.{reader_form, writer_form, refuses_surro,
 use flags::Flags;
 use forms::Form;
 
-#[derive(Drop)]
+#[derive(Clone, Copy)]
 pub enum Coding {
     // UTF-8, with SURRO the surrogates too.
     Utf8,

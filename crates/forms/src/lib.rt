@@ -2,7 +2,7 @@
 // The table that decides.
 #![tactic(auto)]
 
-#[derive(Drop)]
+#[derive(Clone, Copy)]
 pub enum Form {
     // Plain UTF-8.
     Plain,

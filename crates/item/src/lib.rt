@@ -9,7 +9,7 @@ use forms::Form;
 use front::Front;
 
 // A code and how many bytes it takes; where it is an escape, the length of the maximal subpart that its byte begins, else 0.
-#[derive(Drop)]
+#[derive(Clone, Copy)]
 pub struct Leaf {
     pub code: u32,
     pub span: usize,

@@ -11,7 +11,7 @@ use forms::Form;
 
 // The length of the sequences that begin with a byte, 0 where there are none, and the range of their second byte. CESU-8 has surrogate pairs too that begin
 // with ED.
-#[derive(Drop)]
+#[derive(Clone, Copy)]
 pub struct Lead {
     pub len: usize,
     pub lo: u8,

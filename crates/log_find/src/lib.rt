@@ -12,7 +12,7 @@ const EVERY: usize = 64;
 const RECORD: usize = 8;
 
 // Number 0 and the place; or 15 and 0.
-#[derive(Drop)]
+#[derive(Clone, Copy)]
 pub struct Place {
     pub number: u8,
     pub place: usize,

@@ -11,14 +11,14 @@ ghost use Rattle.log_update.specs.Answer.{indexed_of};
 const RECORD: usize = 8;
 
 // Number 0 and how many records the index has; or 1 or 15, and 0.
-#[derive(Drop)]
+#[derive(Clone, Copy)]
 pub struct Indexed {
     pub number: u8,
     pub records: usize,
 }
 
 // How many records stand, and the last of them, else 0.
-#[derive(Drop)]
+#[derive(Clone, Copy)]
 struct Resume {
     count: usize,
     place: usize,

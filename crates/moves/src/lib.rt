@@ -16,7 +16,7 @@ use state::Record;
 use validity::Kind;
 
 // What a reading step answers, and the next state.
-#[derive(Drop)]
+#[derive(Clone, Copy)]
 pub struct Moved {
     pub answer: Answer,
     pub next: Record,

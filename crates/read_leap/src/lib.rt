@@ -13,7 +13,7 @@ use forms::Form;
 pub const MANY: usize = 32;
 
 // Places in the bytes and in the codes.
-#[derive(Drop)]
+#[derive(Clone, Copy)]
 pub struct Leapt {
     pub at: usize,
     pub n: usize,

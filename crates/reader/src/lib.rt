@@ -11,7 +11,7 @@ use flags::Flags;
 use forms::Form;
 
 // The number that the reader stopped with, the bytes consumed, the codes produced, and for number 3 the length of the maximal subpart there.
-#[derive(Drop)]
+#[derive(Clone, Copy)]
 pub struct Decoded {
     pub number: u8,
     pub consumed: usize,

@@ -10,7 +10,7 @@ ghost use Rattle.straight.specs.Straight.{straight_of, InEvery};
 use forms::Form;
 
 // The length and the code of a well-formed sequence; zeros where there is none.
-#[derive(Drop)]
+#[derive(Clone, Copy)]
 pub struct Straight {
     pub len: usize,
     pub code: u32,

@@ -220,7 +220,7 @@ fn has_pairs(form: Form) -> bool
 }
 
 // The place that is reached: codes consumed and bytes written.
-#[derive(Drop)]
+#[derive(Clone, Copy)]
 pub struct Leapt {
     pub at: usize,
     pub n: usize,

@@ -70,7 +70,7 @@ fn put(dst: &mut [u8], n: usize, w: Coded)
 }
 
 // The number that the writer stops with, the codes consumed and the bytes written.
-#[derive(Drop)]
+#[derive(Clone, Copy)]
 pub struct Encoded {
     pub number: u8,
     pub consumed: usize,

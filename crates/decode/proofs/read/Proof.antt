@@ -55,10 +55,10 @@ item r =
     item_lent cells (come l) room (come-room cells (come l)) (min (length (mid_of n (length d - n) d)) 1) (ap (λ (x : ℕ). min x 1) k) _ _ r.read_one.ensures.0 r.read_one.ensures.1
 
 at-fits : (r : tie.After-read-one invariant-loop decreases-loop) → Fits w64 ((leapt r).leap.result.at + r.read_one.result.consumed)
-at-fits r = omega (arith, (item r).place, (start (top (leapt r))).good.1.1.0.1)
+at-fits r = omega (arith, (item r).place, (start (top (leapt r))).well_formed.1.1.0.1)
 
 n-fits : (r : tie.After-read-one invariant-loop decreases-loop) → Fits w64 ((leapt r).leap.result.n + r.read_one.result.produced)
-n-fits r = omega (arith, (item r).few, (start (top (leapt r))).good.1.1.1.0.1)
+n-fits r = omega (arith, (item r).few, (start (top (leapt r))).well_formed.1.1.1.0.1)
 
 -- once counted
 abbrev some : tie.After-struct-known3 invariant-loop decreases-loop → tie.After-read-one invariant-loop decreases-loop
@@ -77,7 +77,7 @@ read_spec =
     (λ c. let l = c.before.before.before in omega (arith, (come l).converts.within))
     (λ c. let l = c.before.before.before in omega (arith, (come l).converts.within))
     (λ c. omega arith)
-    (λ c. let l = c.before.before.before.before in omega (arith, come-room cells (come l), (start (top l)).good.1.1.1.0.1))
+    (λ c. let l = c.before.before.before.before in omega (arith, come-room cells (come l), (start (top l)).well_formed.1.1.1.0.1))
     (λ c. let l = c.before.before.before.before in omega (arith, come-room cells (come l), come_same cells (come l)))
     (λ c. let l = c.before.before.before.before in omega (arith, come-room cells (come l), come_same cells (come l)))
     (λ c. omega arith)

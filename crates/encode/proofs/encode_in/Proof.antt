@@ -86,12 +86,12 @@ add_at : tie.Need-overflow-add-at invariant-loop decreases-loop
 add_at c =
     let o = c.before.before.before in
     let b = start (by (from (left o))) in
-    omega (arith, (one o).place, b.good.1.0.1)
+    omega (arith, (one o).place, b.well_formed.1.0.1)
 
 add-n : tie.Need-overflow-add-n invariant-loop decreases-loop
 add-n c =
     let o = c.before.before.before.before in
-    omega (arith, (one o).room, (one o).same, (start (by (from (left o)))).good.1.1.0.1)
+    omega (arith, (one o).room, (one o).same, (start (by (from (left o)))).well_formed.1.1.0.1)
 
 abbrev counted : tie.After-struct-known3 invariant-loop decreases-loop → One
 counted c = c.before.before.before.before.before
@@ -131,7 +131,7 @@ encode-in-spec =
     (λ c. come_same (leapt c.before.before.before))
     returns-2
     (λ c. omega (arith, some c))
-    (λ c. scaled_Fits _ _ 4 (some c) (start (by (from c))).good.1.0.1)
+    (λ c. scaled_Fits _ _ 4 (some c) (start (by (from c))).well_formed.1.0.1)
     (λ c. omega arith)
     (λ c. omega arith)
     (λ c. omega (arith, some c))

@@ -49,9 +49,9 @@ again c =
     let n = l.blocks2.n in
     let k : n + 4 ≤ length s = omega (arith, e.0) in
     let f = four_of _ _ _ _ (sym c.before.before.before.before.before.all_IsAscii.ensures ∙ c.before.before.before.before.if3.true) in (
-      c.before.before.put_four.auto.0 ∙ l.blocks2.inv.0,
+      c.before.before.put_four.auto.0 ∙ l.blocks2.invariant.0,
       λ z r.
-          let q = l.blocks2.inv.1 z r in
+          let q = l.blocks2.invariant.1 z r in
           singles-more cells q (get_or s n 0 ∷ get_or s (n + 1) 0 ∷ get_or s (n + 2) 0 ∷ get_or s (n + 3) 0 ∷ []) _ k (four_taken s n k) (f.below n)
           (omega (arith, e.1, singles-same cells (come l), singles-same cells q)) (c.before.before.put_four.ensures ∙ ap (λ (v : List ℕ). take n l.blocks2.codes ++ v ++ drop (n + 4) l.blocks2.codes) f.ascii),
       omega arith,

@@ -27,14 +27,14 @@ abbrev place : tie.After-wide invariant-loop decreases-loop → tie.At-loop inva
 place c = c.before.before.before.before
 
 within : (c : tie.After-wide invariant-loop decreases-loop) → (place c).loop.n < length (place c).loop.codes
-within c = let l = place c in omega (arith, (end-within l).1, singles-same cells l.loop.inv.0)
+within c = let l = place c in omega (arith, (end-within l).1, singles-same cells l.loop.invariant.0)
 
 loop-again : tie.Need-loop-preserved invariant-loop decreases-loop
 loop-again c =
     let l = place c in
     let e = end-within l in
     let b : get_or l.before.before.before.before.args.s.now l.loop.n 0 < 0x80 = omega arith in (
-      singles-put cells l.loop.inv.0 _ _ _ (omega (arith, e.0)) refl (c.wide.ensures ∙ sym (single-ascii _ b)) (λ g. b) (omega (arith, e.1)) (sets-eq (c.wide.result ∷ []) l.loop.codes l.loop.n (omega (arith, within c))),
+      singles-put cells l.loop.invariant.0 _ _ _ (omega (arith, e.0)) refl (c.wide.ensures ∙ sym (single-ascii _ b)) (λ g. b) (omega (arith, e.1)) (sets-eq (c.wide.result ∷ []) l.loop.codes l.loop.n (omega (arith, within c))),
       omega arith,
     )
 

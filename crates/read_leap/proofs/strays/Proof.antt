@@ -49,9 +49,9 @@ again c =
     let l = place c in
     let s = (start (bound l)).args.s.now in
     let b : get_or s l.loop.n 0 < 0xC2 = omega arith in (
-      length-set l.loop.codes l.loop.n c.single-of2.result ∙ l.loop.inv.0,
+      length-set l.loop.codes l.loop.n c.single-of2.result ∙ l.loop.invariant.0,
       λ z r.
-          let q = l.loop.inv.1 z r in
+          let q = l.loop.invariant.1 z r in
           singles-put cells q _ _ _ (omega (arith, (end-within (bound l)).0)) refl c.single-of2.ensures (λ g. b) (omega (arith, within c, singles-same cells q))
           (sets-eq (c.single-of2.result ∷ []) l.loop.codes l.loop.n (omega (arith, within c))),
       omega arith,

@@ -41,7 +41,7 @@ run-place a = a.before.before.before.before.before.before
 ran : (a : tie.After-ascii invariant-places decreases-places)
     → let p = run-place a in
     On p (back p.places.codes (p.places.n * 4) a.ascii.new.1.0) (p.places.at + a.ascii.result) (p.places.n + a.ascii.result)
-ran a = let p = run-place a in way-ascii packed (start p).args.m p.before.careful.ensures (omega arith) p.places.inv _ _ a.ascii.ensures
+ran a = let p = run-place a in way-ascii packed (start p).args.m p.before.careful.ensures (omega arith) p.places.invariant _ _ a.ascii.ensures
 
 -- ---- a sequence
 
@@ -55,7 +55,7 @@ read : (c : tie.Then4 invariant-places decreases-places)
 read c =
     let a = c.before.before.before in
     let p = sequence-place a in
-    way-sequence packed (start p).args.m p.before.careful.ensures (omega arith) p.places.inv _ _ a.sequence.ensures c.if4.true
+    way-sequence packed (start p).args.m p.before.careful.ensures (omega arith) p.places.invariant _ _ a.sequence.ensures c.if4.true
 
 -- none was found
 passed : (c : tie.Else4 invariant-places decreases-places)
@@ -65,7 +65,7 @@ passed : (c : tie.Else4 invariant-places decreases-places)
 passed c =
     let a = c.before.before.before in
     let p = sequence-place a in
-    way-passed packed (start p).args.m p.before.careful.ensures (omega arith) p.places.inv _ _ a.sequence.ensures c.if4.false
+    way-passed packed (start p).args.m p.before.careful.ensures (omega arith) p.places.invariant _ _ a.sequence.ensures c.if4.false
 
 -- ---- bad bytes
 
@@ -79,7 +79,7 @@ strewn : (a : tie.After-strays invariant-places decreases-places)
 strewn a =
     let b = sequence-before a in
     let p = sequence-place b in
-    way-strays packed (start p).args.m p.before.careful.ensures (omega arith) p.places.inv _ _ b.sequence.ensures a.before.before.before.before.if4.false a.before.before.before.if5.false _ _ a.strays.ensures
+    way-strays packed (start p).args.m p.before.careful.ensures (omega arith) p.places.invariant _ _ b.sequence.ensures a.before.before.before.before.if4.false a.before.before.before.if5.false _ _ a.strays.ensures
 
 -- once a run has been counted
 abbrev after_run : tie.After-slice-known2 invariant-places decreases-places → tie.After-ascii invariant-places decreases-places

@@ -31,7 +31,7 @@ loop-again c =
     let l = place c in
     let e = end-within l in
     let b : get_or l.before.before.before.before.args.s.now l.loop.n 0 < 0x80 = omega arith in (
-      singles-put packed l.loop.inv.0 _ _ _ (omega (arith, e.0)) refl (c.before.before.before.wide.ensures ∙ sym (single-ascii _ b)) (λ g. b) (omega (arith, e.1)) c.before.before.put.ensures,
+      singles-put packed l.loop.invariant.0 _ _ _ (omega (arith, e.0)) refl (c.before.before.before.wide.ensures ∙ sym (single-ascii _ b)) (λ g. b) (omega (arith, e.1)) c.before.before.put.ensures,
       omega arith,
     )
 

@@ -48,9 +48,9 @@ again c =
     let e = end-within (bound l) in
     let s = (start (bound l)).args.s.now in
     let b : get_or s l.loop.n 0 < 0xC2 = omega arith in (
-      c.before.before.put2.auto.0 ∙ l.loop.inv.0,
+      c.before.before.put2.auto.0 ∙ l.loop.invariant.0,
       λ z r.
-          let q = l.loop.inv.1 z r in
+          let q = l.loop.invariant.1 z r in
           let o = singles-same packed (come l) in
           singles-put packed q _ _ _ (omega (arith, e.0)) refl c.before.before.before.single-of2.ensures (λ g. b) (omega (arith, e.1, o, singles-same packed q)) c.before.before.put2.ensures,
       omega arith,

@@ -57,28 +57,28 @@ rest b = drop (place b).places.at (bytes (place b))
 abbrev size : tie.At-bytes invariant-bytes decreases-bytes invariant-places decreases-places → ℕ
 size b = b.bytes.end - (place b).places.at
 
-whole : (c : tie.Then5 invariant-bytes decreases-bytes invariant-places decreases-places)
+whole : (c : tie.Then-found-eq-WHOLE invariant-bytes decreases-bytes invariant-places decreases-places)
     → turn (rows_of (form (place c.before.before))) (mode (place c.before.before)) (rest c.before.before)
     ≡ convert (bits (take (size c.before.before) (rest c.before.before))) (size c.before.before)
 whole c =
     let b = c.before.before in
-    ⊎_elim (λ w. turn_whole b.bytes.invariant (mode (place b)) (sym w.1 ∙ c.if5.true)) (λ w. absurd (omega (arith, w.3, c.if5.true))) c.before.if2.branch
+    ⊎_elim (λ w. turn_whole b.bytes.invariant (mode (place b)) (sym w.1 ∙ c.if-found-eq-WHOLE.true)) (λ w. absurd (omega (arith, w.3, c.if-found-eq-WHOLE.true))) c.if-stage-le-WHOLE.branch
 
-none : (c : tie.Else5 invariant-bytes decreases-bytes invariant-places decreases-places)
+none : (c : tie.Else-found-eq-WHOLE invariant-bytes decreases-bytes invariant-places decreases-places)
     → NoneAt (form (place c.before.before)) (mode (place c.before.before)) (bytes (place c.before.before)) (place c.before.before).places.at
-    (cond (eqb c.before.before.bytes.stage 0) (max 1 (size c.before.before - 1)) (size c.before.before))
+    (cond (eqb c.bytes.stage 0) (max 1 (size c.before.before - 1)) (size c.before.before))
 none c =
     let b = c.before.before in
     ⊎_elim
-    (λ w. none_bad b.bytes.invariant (mode (place b)) (omega (arith, w.0.taken, w.1, c.if5.false)))
+    (λ w. none_bad b.bytes.invariant (mode (place b)) (omega (arith, w.0.taken, w.1, c.if-found-eq-WHOLE.false)))
     (λ w. none_partial b.bytes.invariant (mode (place b)) w.0.left w.1.taken w.2.taken)
-    c.before.if2.branch
+    c.if-stage-le-WHOLE.branch
 
 -- by the length that the code has
-none-by : (u : tie.After-subpart-by invariant-bytes decreases-bytes invariant-places decreases-places)
+none-by : (u : tie.After-subpart_by-len invariant-bytes decreases-bytes invariant-places decreases-places)
     → NoneAt (form (place u.before.before.before)) (mode (place u.before.before.before)) (bytes (place u.before.before.before)) (place u.before.before.before).places.at
-    u.subpart-by.result
-none-by u = rw u.subpart-by.ensures (none u.before)
+    u.subpart_by-len.result
+none-by u = rw u.subpart_by-len.ensures (none u.before)
 
 -- ---- the turns
 
@@ -88,62 +88,62 @@ places-holds c = (reached-start _ _ _ _, refl)
 bytes-holds : tie.Need-bytes-init invariant-bytes decreases-bytes invariant-places decreases-places
 bytes-holds c =
     let p = c.before.before.before in
-    walk_begun (form p) (bytes p) p.places.at c.first.result (omega (arith, p.places.invariant.0.place))
-    (omega (arith, c.before.shared-slice-known2.given p.places.at))
-    c.first.ensures
+    walk_begun (form p) (bytes p) p.places.at c.first-stage.result (omega (arith, p.places.invariant.0.place))
+    (omega (arith, c.shared_slice_known-in-places-1.given p.places.at))
+    c.first-stage.ensures
 
 bytes-again : tie.Need-bytes-preserved invariant-bytes decreases-bytes invariant-places decreases-places
 bytes-again c =
     let b = c.before.before.before.before in
-    walk_on b.bytes.invariant (mode (place b)) c.next.result (omega arith) (omega (arith, b.bytes.invariant.within)) c.next.ensures
+    walk_on b.bytes.invariant (mode (place b)) c.next-stage.result (omega arith) (omega (arith, b.bytes.invariant.within)) c.next-stage.ensures
 
-places-again : tie.Need-places-preserved invariant-bytes decreases-bytes invariant-places decreases-places
+places-again : tie.Need-places-preserved-then-found-eq-WHOLE invariant-bytes decreases-bytes invariant-places decreases-places
 places-again c =
     let b = c.before.before.before.before.before in
     let p = place b in
     let e : p.places.at + size b ≡ b.bytes.end = omega (arith, b.bytes.invariant.begins) in
-    let r = reached-next p.places.inv.0 _ (size b) (whole c.before.before.before) (room-left p c.before.before.if6.false) in
-    (rw c.code_of.ensures (rw e at r), p.places.inv.1)
+    let r = reached-next p.places.invariant.0 _ (size b) (whole c.before.before.before) (room-left p c.if-n-codes.false) in
+    (rw c.code_of.ensures (rw e at r), p.places.invariant.1)
 
-places-again-2 : tie.Need-places-preserved-2 invariant-bytes decreases-bytes invariant-places decreases-places
+places-again-2 : tie.Need-places-preserved invariant-bytes decreases-bytes invariant-places decreases-places
 places-again-2 c =
     let u = c.before.before.before.before.before in
     let p = place u.before.before.before in (
-      rw (c.before.stray.ensures, c.taken.ensures)
-          (reached-next p.places.inv.0 _ _ (none_lax (none-by u) c.before.before.before.before.if7.false) (room-left p c.before.before.before.if8.false)),
-      p.places.inv.1,
+      rw (c.stray.ensures, c.taken-at.ensures)
+          (reached-next p.places.invariant.0 _ _ (none_lax (none-by u) c.if-m-2.false) (room-left p c.if-n-codes-2.false)),
+      p.places.invariant.1,
     )
 
 -- ---- the stops
 
-returns : tie.Need-returns invariant-bytes decreases-bytes invariant-places decreases-places
-returns c = let p = c.before in rw p.places.invariant.1 (ends-used-up p.places.invariant.0 c.if1.true)
+returns : tie.Need-returns-then-at-s invariant-bytes decreases-bytes invariant-places decreases-places
+returns c = let p = c.before in rw p.places.invariant.1 (ends-used-up p.places.invariant.0 c.if-at-s.true)
 
-returns-2 : tie.Need-returns-2 invariant-bytes decreases-bytes invariant-places decreases-places
+returns-2 : tie.Need-returns-else-m invariant-bytes decreases-bytes invariant-places decreases-places
 returns-2 c =
     let b = c.before.before.before in
     let p = place b in
-    rw p.places.inv.1 (ends-stop p.places.inv.0 2 0 (turn_waits b.bytes.invariant (mode p) c.before.before.if2.false c.before.if3.true c.if4.false))
+    rw p.places.invariant.1 (ends-stop p.places.invariant.0 2 0 (turn_waits b.bytes.invariant (mode p) c.if-stage-le-WHOLE.false c.if-end-s.true c.if-m.false))
 
-returns-3 : tie.Need-returns-3 invariant-bytes decreases-bytes invariant-places decreases-places
+returns-3 : tie.Need-returns-then-n-codes invariant-bytes decreases-bytes invariant-places decreases-places
 returns-3 c =
     let p = place c.before.before.before in
-    rw p.places.inv.1 (ends-full p.places.inv.0 _ _ (whole c.before) (c.if6.true ∙ p.places.inv.0.same))
+    rw p.places.invariant.1 (ends-full p.places.invariant.0 _ _ (whole c.before) (c.if-n-codes.true ∙ p.places.invariant.0.same))
 
-returns-4 : tie.Need-returns-4 invariant-bytes decreases-bytes invariant-places decreases-places
+returns-4 : tie.Need-returns-then-m-2 invariant-bytes decreases-bytes invariant-places decreases-places
 returns-4 c =
     let u = c.before in
     let p = place u.before.before.before in
-    ends-stop p.places.inv.0 3 u.subpart-by.result (none-strict (none-by u) c.if7.true)
+    ends-stop p.places.invariant.0 3 u.subpart_by-len.result (none-strict (none-by u) c.if-m-2.true)
 
-returns-5 : tie.Need-returns-5 invariant-bytes decreases-bytes invariant-places decreases-places
+returns-5 : tie.Need-returns-then-n-codes-2 invariant-bytes decreases-bytes invariant-places decreases-places
 returns-5 c =
     let u = c.before.before in
     let p = place u.before.before.before in
-    rw p.places.inv.1 (ends-full p.places.inv.0 _ _ (none_lax (none-by u) c.before.if7.false) (c.if8.true ∙ p.places.inv.0.same))
+    rw p.places.invariant.1 (ends-full p.places.invariant.0 _ _ (none_lax (none-by u) c.if-m-2.false) (c.if-n-codes-2.true ∙ p.places.invariant.0.same))
 
-pub read-as-spec : {M : Type 1} → statement M
-read-as-spec =
+pub read_as_spec : {M : Type 1} → statement M
+read_as_spec =
     tie.close
     (tie.spec
     invariant-bytes
@@ -151,45 +151,45 @@ read-as-spec =
     invariant-places
     decreases-places
     places-holds
-    (λ c. omega (arith, c.before.before.places.invariant.0.place))
+    (λ c. omega (arith, c.places.invariant.0.place))
     (λ c κs. search rules)
-    (λ c. omega (arith, c.before.before.before.places.invariant.0.place))
+    (λ c. omega (arith, c.places.invariant.0.place))
     bytes-holds
-    (λ c. omega (arith, c.before.before.before.bytes.invariant.within))
+    (λ c. omega (arith, c.bytes.invariant.within))
     (λ c κs. search rules)
-    (λ c. omega (arith, c.before.before.before.before.bytes.invariant.within))
-    (λ c. omega (arith, c.before.before.before.before.bytes.invariant.within))
+    (λ c. omega (arith, c.bytes.invariant.within))
+    (λ c. omega (arith, c.bytes.invariant.within))
     bytes-again
-    (λ c. omega (arith, c.before.before.before.bytes.invariant.begins))
-    (λ c. omega (arith, c.before.before.before.bytes.invariant.begins))
-    (λ c. c.before.before.before.bytes.invariant.within)
+    (λ c. omega (arith, c.bytes.invariant.begins))
+    (λ c. omega (arith, c.bytes.invariant.begins))
+    (λ c. c.bytes.invariant.within)
     (λ c κs. search rules)
-    (λ c. let p = place c.before.before.before.before.before in scaled_Fits p.places.n (length (start p).args.codes.now) 4 (room-left p c.before.before.if6.false) (start p).good.1.1.1.0.1)
-    (λ c. let p = place c.before.before.before.before.before in omega (arith, p.places.inv.0.same, room-left p c.before.before.if6.false))
-    (λ c. let p = place c.before.before.before.before.before in omega (arith, room-left p c.before.before.if6.false))
-    (λ c. let p = place c.before.before.before.before.before in omega (arith, room-left p c.before.before.if6.false))
+    (λ c. let p = place c.before.before.before.before.before in scaled_Fits p.places.n (length (start p).args.codes.now) 4 (room-left p c.if-n-codes.false) (start p).well_formed.1.1.1.0.1)
+    (λ c. let p = place c.before.before.before.before.before in omega (arith, p.places.invariant.0.same, room-left p c.if-n-codes.false))
+    (λ c. let p = place c.before.before.before.before.before in omega (arith, room-left p c.if-n-codes.false))
+    (λ c. let p = place c.before.before.before.before.before in omega (arith, room-left p c.if-n-codes.false))
     places-again
     (λ c. let b = c.before.before in omega (arith, b.bytes.invariant.begins))
     (λ c κs. search rules)
     (λ c. let b = c.before.before.before.before.before.before in omega (arith, b.bytes.invariant.begins, b.bytes.invariant.within))
     (λ c κs. search rules)
-    (λ c. let p = place c.before.before.before.before.before.before.before in scaled_Fits p.places.n (length (start p).args.codes.now) 4 (room-left p c.before.before.if8.false) (start p).good.1.1.1.0.1)
-    (λ c. let p = place c.before.before.before.before.before.before.before in omega (arith, p.places.inv.0.same, room-left p c.before.before.if8.false))
-    (λ c. let p = place c.before.before.before.before.before.before.before in omega (arith, room-left p c.before.before.if8.false))
+    (λ c. let p = place c.before.before.before.before.before.before.before in scaled_Fits p.places.n (length (start p).args.codes.now) 4 (room-left p c.if-n-codes-2.false) (start p).well_formed.1.1.1.0.1)
+    (λ c. let p = place c.before.before.before.before.before.before.before in omega (arith, p.places.invariant.0.same, room-left p c.if-n-codes-2.false))
+    (λ c. let p = place c.before.before.before.before.before.before.before in omega (arith, room-left p c.if-n-codes-2.false))
     (λ c κs. search rules)
     (λ c.
     let u = c.before.before.before.before.before in
     let p = place u.before.before.before in
-    omega (arith, c.taken.ensures, reached-within p.places.inv.0 _ _ (none_lax (none-by u) c.before.before.before.before.if7.false)))
-    (λ c. let p = place c.before.before.before.before.before.before.before.before in omega (arith, room-left p c.before.before.before.if8.false))
+    omega (arith, c.taken.ensures, reached-within p.places.invariant.0 _ _ (none_lax (none-by u) c.before.before.before.before.if7.false)))
+    (λ c. let p = place c.before.before.before.before.before.before.before.before in omega (arith, room-left p c.if-n-codes-2.false))
     places-again-2
-    (λ c. c.before.places.invariant.0.same)
+    (λ c. c.places.invariant.0.same)
     returns
-    (λ c. (place c.before.before.before).places.inv.0.same)
+    (λ c. (place c.before.before.before).places.invariant.0.same)
     returns-2
-    (λ c. (place c.before.before.before).places.inv.0.same)
+    (λ c. (place c.before.before.before).places.invariant.0.same)
     returns-3
-    (λ c. (place c.before.before.before.before).places.inv.0.same)
+    (λ c. (place c.before.before.before.before).places.invariant.0.same)
     returns-4
-    (λ c. (place c.before.before.before.before.before).places.inv.0.same)
+    (λ c. (place c.before.before.before.before.before).places.invariant.0.same)
     returns-5)

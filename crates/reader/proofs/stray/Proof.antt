@@ -4,8 +4,8 @@ use borrow.Author.Rules.{rules}
 use Rattle.reader.proofs.stray.Statement.{statement}
 use Rattle.reader.proofs.stray.Tie as tie
 
-returns-2 : tie.Need-returns-2
-returns-2 c = rw c.if1.false refl
+returns-2 : tie.Need-returns-else-show
+returns-2 c = rw c.if-show.false refl
 
-pub stray-spec : {M : Type 1} → statement M
-stray-spec = tie.close (tie.spec (λ c. search rules) (λ c. search rules) returns-2)
+pub stray_spec : {M : Type 1} → statement M
+stray_spec = tie.close (tie.spec (λ c. search rules) (λ c. search rules) returns-2)

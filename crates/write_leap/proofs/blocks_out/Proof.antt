@@ -35,7 +35,7 @@ blocks2-again c =
     let p = place c.before.before.before in
     let n = p.before.blocks2.n in
     let t = p.blocks2-test.left in
-    let r = p.before.blocks2.inv in
+    let r = p.before.blocks2.invariant in
     let r1 = run-next r _ _ (n + 1) refl (omega (arith, r.within)) refl h.0 c.before.before.before.low.ensures in
     let r2 = run-next r1 _ _ (n + 2) (omega arith) (omega (arith, r.within)) refl h.1.0 c.before.before.low2.ensures in
     let r3 = run-next r2 _ _ (n + 3) (omega arith) (omega (arith, r.within)) refl h.1.1.0 c.before.low3.ensures in
@@ -53,13 +53,13 @@ blocks-out-spec =
     (λ c. scaled_Fits _ _ 4 (omega (arith, (four c).0)) (start c).well_formed.0.1)
     (λ c. omega (arith, (four c.before).0))
     (λ c. omega (arith, (four c.before).1))
-    (λ c. scaled_Fits _ _ 4 (omega (arith, (four c.before).0)) (start c.before).good.0.1)
+    (λ c. scaled_Fits _ _ 4 (omega (arith, (four c.before).0)) (start c.before).well_formed.0.1)
     (λ c. omega (arith, (four c.before.before).0))
     (λ c. omega (arith, (four c.before.before).1))
-    (λ c. scaled_Fits _ _ 4 (omega (arith, (four c.before.before).0)) (start c.before.before).good.0.1)
+    (λ c. scaled_Fits _ _ 4 (omega (arith, (four c.before.before).0)) (start c.before.before).well_formed.0.1)
     (λ c. omega (arith, (four c.before.before.before).0))
     (λ c. omega (arith, (four c.before.before.before).1))
-    (λ c. scaled_Fits _ _ 4 (omega (arith, (four c.before.before.before).0)) (start c.before.before.before).good.0.1)
+    (λ c. scaled_Fits _ _ 4 (omega (arith, (four c.before.before.before).0)) (start c.before.before.before).well_formed.0.1)
     (λ c. omega (arith, (four c.before.before.before.before).0))
     (λ c κs. search rules)
     (λ c κs. search rules)

@@ -42,7 +42,7 @@ module _ (p : Place) where
   some = omega (arith, p.before.codes-test.left)
 
   four : n + 4 ≤ length p.before.before.codes.dst
-  four = omega (arith, p.if2.left, p.before.before.codes.inv.room)
+  four = omega (arith, p.if2.left, p.before.before.codes.invariant.room)
 
 -- the code there
 abbrev Code : Type 0
@@ -68,7 +68,7 @@ first c =
     let d = low-at c in
     let p = d.before in
     let a = (begin p).args in
-    leaping-one p.before.before.codes.inv (code d) (some p) refl c.low.result c.low.ensures
+    leaping-one p.before.before.codes.invariant (code d) (some p) refl c.low.result c.low.ensures
     (λ t. writes-ascii (rows_of a.form) (form_writer a.form) a.m (code d) t c.before.if3.true) (omega (arith, four p))
 
 abbrev run_at : tie.After-slice-known2 invariant-codes decreases-codes → tie.After-low invariant-codes decreases-codes
@@ -141,7 +141,7 @@ escaped c =
     let d = escape-at c in
     let p = d.before in
     let a = (begin p).args in
-    leaping-one p.before.before.codes.inv (code d) (some p) refl c.low2.result c.low2.ensures
+    leaping-one p.before.before.codes.invariant (code d) (some p) refl c.low2.result c.low2.ensures
     (λ t. writes-escape (rows_of a.form) (form_writer a.form) a.m (code d) t (lax c).1 (lax c).0 (c.before.before.no-escape.ensures c.before.if11.false)) (omega (arith, four p))
 
 abbrev escapes-at : tie.After-slice-known7 invariant-codes decreases-codes → tie.After-low2 invariant-codes decreases-codes

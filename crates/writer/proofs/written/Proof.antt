@@ -18,11 +18,11 @@ is-given : (s : tie.Start) (w : List ℕ) (r : Coded) → r ≡ coded_of w → g
     → r ≡ coded_of (given (rows_of s.args.form) s.args.m s.args.c)
 is-given s w r e h = e ∙ ap coded_of (sym h)
 
-returns : tie.Need-returns
+returns : tie.Need-returns-then-c-lt128
 unfolding coded_of
 returns c = let s = c.before in let a = s.args in is-given s (a.c ∷ []) _ refl (given-ascii (rows_of a.form) (form_writer a.form) a.m a.c (omega arith))
 
-returns-2 : tie.Need-returns-2
+returns-2 : tie.Need-returns-then-c-gt65535
 returns-2 c =
     let s = c.before.before.before in
     let a = s.args in
@@ -30,44 +30,44 @@ returns-2 c =
 
 -- ---- from 80 to FFFF
 
-abbrev start : tie.Else2 → tie.Start
+abbrev start : tie.Else-c-gt65535 → tie.Start
 start d = d.before.before
 
-few : (d : tie.Else2) → (start d).args.c ≤ 0xFFFF
-few d = omega (arith, d.if2.false)
+few : (d : tie.Else-c-gt65535) → (start d).args.c ≤ 0xFFFF
+few d = omega (arith, d.if-c-gt65535.false)
 
-returns-3 : tie.Need-returns-3
+returns-3 : tie.Need-returns-then-m
 returns-3 c =
     let d = c.before.before in
     let a = (start d).args in
-    is-given (start d) _ _ c.bytes-of2.ensures (given-surro (rows_of a.form) (form_writer a.form) a.m a.c (few d) c.before.if3.true)
+    is-given (start d) _ _ c.bytes_of-then-m.ensures (given-surro (rows_of a.form) (form_writer a.form) a.m a.c (few d) c.if-m.true)
 
-returns-4 : tie.Need-returns-4
+returns-4 : tie.Need-returns-then-m-2
 returns-4 c =
     let d = c.before.before.before in
     let a = (start d).args in
-    is-given (start d) _ _ c.bytes-of3.ensures (given-strict (rows_of a.form) (form_writer a.form) a.m a.c (few d) c.before.before.if3.false c.before.if4.true)
+    is-given (start d) _ _ c.bytes_of-then-m-2.ensures (given-strict (rows_of a.form) (form_writer a.form) a.m a.c (few d) c.if-m.false c.if-m-2.true)
 
-returns-5 : tie.Need-returns-5
+returns-5 : tie.Need-returns-in-56448-to-56575
 unfolding coded_of
 returns-5 c =
-    let e = c.before.before in
+    let e = c.before in
     let d = e.before.before in
     let a = (start d).args in
     is-given (start d) ((a.c - 0xDC00) ∷ []) _ refl
-    (given-escape (rows_of a.form) (form_writer a.form) a.m a.c (few d) e.before.if3.false e.if4.false (omega arith))
+    (given-escape (rows_of a.form) (form_writer a.form) a.m a.c (few d) e.if-m.false e.if-m-2.false (omega arith))
 
-returns-6 : tie.Need-returns-6
+returns-6 : tie.Need-returns-in_default
 returns-6 c =
     let e = c.before.before in
     let d = e.before.before in
     let a = (start d).args in
-    is-given (start d) _ _ c.bytes-of4.ensures
-    (given-other (rows_of a.form) (form_writer a.form) a.m a.c (few d) e.before.if3.false e.if4.false
-    (λ h. ⊎_elim (λ w. omega arith) (λ w. omega (arith, w.1.left)) c.before.if5.branch))
+    is-given (start d) _ _ c.bytes_of-in_default.ensures
+    (given-other (rows_of a.form) (form_writer a.form) a.m a.c (few d) e.if-m.false e.if-m-2.false
+    (λ h. ⊎_elim (λ w. omega arith) (λ w. omega (arith, w.1.left)) c.in_default.branch))
 
-pub written-spec : {M : Type 1} → statement M
-written-spec =
+pub written_spec : {M : Type 1} → statement M
+written_spec =
     tie.close
     (tie.spec
     (λ c. search rules)
