@@ -1,6 +1,5 @@
 -- The outer loop has read up to a place, and the inner loop walks the stages from there. Assumes nothing.
 use mathlib.Core.Path.{◌≡◌, refl, sym, ◌∙◌}
-use mathlib.Core.Logic.{⊎_elim}
 use mathlib.Core.Bool.{cond}
 use mathlib.Core.List.{List}
 use Prim.Native.Nat.{ℕ, ◌+◌, ◌-◌, ◌<◌, max}
@@ -15,6 +14,7 @@ use Rattle.form.specs.Pattern.{bits}
 use Rattle.readings.specs.Reading.{turn, convert}
 use Rattle.reader.proofs.Places.{Reached, reached-start, reached-within, reached-next, ends-stop, ends-full, ends-used-up, Walking, walk_begun, NoneAt, walk_on, turn_whole, turn_waits, none_partial, none_bad, none-strict, none_lax}
 use Rattle.reader.proofs.read_as.Statement.{statement}
+use Rattle.reader.proofs.read_as.Lts.{then-stage-le-WHOLE, else-stage-le-WHOLE+then-end-s+then-m}
 use Rattle.reader.proofs.read_as.Tie as tie
 
 abbrev invariant-bytes : tie.invariant-bytes
@@ -62,17 +62,20 @@ whole : (c : tie.Then-found-eq-WHOLE invariant-bytes decreases-bytes invariant-p
     ≡ convert (bits (take (size c.before.before) (rest c.before.before))) (size c.before.before)
 whole c =
     let b = c.before.before in
-    ⊎_elim (λ w. turn_whole b.bytes.invariant (mode (place b)) (sym w.1 ∙ c.if-found-eq-WHOLE.true)) (λ w. absurd (omega (arith, w.3, c.if-found-eq-WHOLE.true))) c.if-stage-le-WHOLE.branch
+    elim c.if-stage-le-WHOLE.branch
+    [ then-stage-le-WHOLE w ↦ turn_whole b.bytes.invariant (mode (place b)) (sym w.found-is ∙ c.if-found-eq-WHOLE.true)
+    | else-stage-le-WHOLE+then-end-s+then-m w ↦ absurd (omega (arith, w.found-is, c.if-found-eq-WHOLE.true))
+    ]
 
 none : (c : tie.Else-found-eq-WHOLE invariant-bytes decreases-bytes invariant-places decreases-places)
     → NoneAt (form (place c.before.before)) (mode (place c.before.before)) (bytes (place c.before.before)) (place c.before.before).places.at
     (cond (eqb c.bytes.stage 0) (max 1 (size c.before.before - 1)) (size c.before.before))
 none c =
     let b = c.before.before in
-    ⊎_elim
-    (λ w. none_bad b.bytes.invariant (mode (place b)) (omega (arith, w.0.taken, w.1, c.if-found-eq-WHOLE.false)))
-    (λ w. none_partial b.bytes.invariant (mode (place b)) w.0.left w.1.taken w.2.taken)
-    c.if-stage-le-WHOLE.branch
+    elim c.if-stage-le-WHOLE.branch
+    [ then-stage-le-WHOLE w ↦ none_bad b.bytes.invariant (mode (place b)) (omega (arith, w.if-stage-le-WHOLE.true, w.found-is, c.if-found-eq-WHOLE.false))
+    | else-stage-le-WHOLE+then-end-s+then-m w ↦ none_partial b.bytes.invariant (mode (place b)) w.if-stage-le-WHOLE.false w.if-end-s.true w.if-m.true
+    ]
 
 -- by the length that the code has
 none-by : (u : tie.After-subpart_by-len invariant-bytes decreases-bytes invariant-places decreases-places)
@@ -180,7 +183,7 @@ read_as_spec =
     (λ c.
     let u = c.before.before.before.before.before in
     let p = place u.before.before.before in
-    omega (arith, c.taken.ensures, reached-within p.places.invariant.0 _ _ (none_lax (none-by u) c.before.before.before.before.if7.false)))
+    omega (arith, c.taken-at.ensures, reached-within p.places.invariant.0 _ _ (none_lax (none-by u) c.if-m-2.false)))
     (λ c. let p = place c.before.before.before.before.before.before.before.before in omega (arith, room-left p c.if-n-codes-2.false))
     places-again-2
     (λ c. c.places.invariant.0.same)

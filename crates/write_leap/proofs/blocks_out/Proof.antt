@@ -9,47 +9,47 @@ use Rattle.writings.proofs.Leaping.{Run, run-start, run-same, run-four, run-next
 use Rattle.write_leap.proofs.blocks_out.Statement.{statement}
 use Rattle.write_leap.proofs.blocks_out.Tie as tie
 
-abbrev invariant-blocks2 : tie.invariant-blocks2
+abbrev invariant-blocks2 : tie.invariant-blocks-2
 invariant-blocks2 codes dst₀ end n₀ dst n = Run Ascii codes dst₀ dst end n
 
-abbrev decreases-blocks2 : tie.decreases-blocks2
+abbrev decreases-blocks2 : tie.decreases-blocks-2
 decreases-blocks2 codes dst₀ end n₀ dst n = end - n
 
 abbrev Turn : Type 0
-Turn = tie.In-blocks2 invariant-blocks2 decreases-blocks2
+Turn = tie.Else-end-n-lt4 invariant-blocks2 decreases-blocks2
 
 abbrev start : Turn → tie.Start invariant-blocks2 decreases-blocks2
 start c = c.before.before.before.before.before
 
-four : (c : Turn) → (c.before.blocks2.n + 4 ≤ length (start c).args.codes.now) × (c.before.blocks2.n + 4 ≤ length c.before.blocks2.dst)
-four c = run-four c.before.blocks2.invariant (omega (arith, c.blocks2-test.false))
+four : (c : Turn) → (c.before.blocks-2.n + 4 ≤ length (start c).args.codes.now) × (c.before.blocks-2.n + 4 ≤ length c.blocks-2.dst)
+four c = run-four c.before.blocks-2.invariant (omega (arith, c.if-end-n-lt4.false))
 
 -- where the four are ASCII
 abbrev place : tie.After-low invariant-blocks2 decreases-blocks2 → Turn
 place c = c.before.before.before.before.before.before.before
 
-blocks2-again : tie.Need-blocks2-preserved invariant-blocks2 decreases-blocks2
+blocks2-again : tie.Need-blocks-2-preserved invariant-blocks2 decreases-blocks2
 blocks2-again c =
     let e = c.before.before.before.before in
-    let h = e.before.some-high.ensures e.if1.false in
+    let h = e.some_high.ensures e.if-some_high.false in
     let p = place c.before.before.before in
-    let n = p.before.blocks2.n in
-    let t = p.blocks2-test.left in
-    let r = p.before.blocks2.invariant in
-    let r1 = run-next r _ _ (n + 1) refl (omega (arith, r.within)) refl h.0 c.before.before.before.low.ensures in
-    let r2 = run-next r1 _ _ (n + 2) (omega arith) (omega (arith, r.within)) refl h.1.0 c.before.before.low2.ensures in
-    let r3 = run-next r2 _ _ (n + 3) (omega arith) (omega (arith, r.within)) refl h.1.1.0 c.before.low3.ensures in
-    run-next r3 _ _ (n + 4) (omega arith) (omega (arith, r.within)) refl h.1.1.1 c.low4.ensures
+    let n = p.before.blocks-2.n in
+    let t = p.if-end-n-lt4.false in
+    let r = p.before.blocks-2.invariant in
+    let r1 = run-next r _ _ (n + 1) refl (omega (arith, r.within)) refl h.0 c.low.ensures in
+    let r2 = run-next r1 _ _ (n + 2) (omega arith) (omega (arith, r.within)) refl h.1.0 c.low-in-blocks-2.ensures in
+    let r3 = run-next r2 _ _ (n + 3) (omega arith) (omega (arith, r.within)) refl h.1.1.0 c.low-in-blocks-2-2.ensures in
+    run-next r3 _ _ (n + 4) (omega arith) (omega (arith, r.within)) refl h.1.1.1 c.low-in-blocks-2-3.ensures
 
-pub blocks-out-spec : {M : Type 1} → statement M
-blocks-out-spec =
+pub blocks_out_spec : {M : Type 1} → statement M
+blocks_out_spec =
     tie.close
     (tie.spec
     invariant-blocks2
     decreases-blocks2
     (λ c κs. search rules)
-    (λ c. run-start _ _ _ _ c.lesser.ensures)
-    (λ c. c.blocks2.invariant.within)
+    (λ c. run-start _ _ _ _ c.lesser-end.ensures)
+    (λ c. c.blocks-2.invariant.within)
     (λ c. scaled_Fits _ _ 4 (omega (arith, (four c).0)) (start c).well_formed.0.1)
     (λ c. omega (arith, (four c.before).0))
     (λ c. omega (arith, (four c.before).1))
@@ -74,9 +74,9 @@ blocks-out-spec =
     (λ c. omega (arith, (four (place c.before.before.before)).1))
     (λ c. simp length-set (omega (arith, (four (place c.before.before.before)).1)))
     (λ c. omega (arith, (four (place c.before.before.before)).1))
-    (λ c. omega (arith, (place c.before.before.before).blocks2-test.left))
+    (λ c. omega (arith, (place c.before.before.before).if-end-n-lt4.false))
     blocks2-again
-    (λ c. run-same c.before.blocks2.invariant)
-    (λ c. c.before.blocks2.invariant.singled)
-    (λ c. run-same c.before.before.before.before.before.before.before.blocks2.invariant)
-    (λ c. c.before.before.before.before.before.before.before.blocks2.invariant.singled))
+    (λ c. run-same c.blocks-2.invariant)
+    (λ c. c.blocks-2.invariant.singled)
+    (λ c. run-same c.blocks-2.invariant)
+    (λ c. c.blocks-2.invariant.singled))

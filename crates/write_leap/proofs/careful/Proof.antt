@@ -4,5 +4,5 @@ use borrow.Author.Rules.{rules}
 use Rattle.write_leap.proofs.careful.Statement.{statement}
 use Rattle.write_leap.proofs.careful.Tie as tie
 
-pub careful-spec : {M : Type 1} → statement M
-careful-spec = tie.close (tie.spec (λ c e. absurd (true≢false e)) (λ c. search rules))
+pub careful_spec : {M : Type 1} → statement M
+careful_spec = tie.close (tie.spec (λ c e. absurd (true≢false e)) (λ c. search rules))

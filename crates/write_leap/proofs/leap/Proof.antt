@@ -26,7 +26,7 @@ decreases-codes form m codes start dst₀ begun at₀ n₀ dst at n = length cod
 -- ---- at a place
 
 abbrev Place : Type 0
-Place = tie.Else2 invariant-codes decreases-codes
+Place = tie.Else-dst-n-lt4 invariant-codes decreases-codes
 
 abbrev begin : Place → tie.Start invariant-codes decreases-codes
 begin p = p.before.before.before.before.before.before
@@ -39,14 +39,14 @@ module _ (p : Place) where
   n = p.before.before.codes.n
 
   some : at < length (begin p).args.codes.now
-  some = omega (arith, p.before.codes-test.left)
+  some = omega (arith, p.before.if-codes-at.false)
 
   four : n + 4 ≤ length p.before.before.codes.dst
-  four = omega (arith, p.if2.left, p.before.before.codes.invariant.room)
+  four = omega (arith, p.if-dst-n-lt4.false, p.before.before.codes.invariant.room)
 
 -- the code there
 abbrev Code : Type 0
-Code = tie.After-shared-slice-known2 invariant-codes decreases-codes
+Code = tie.After-shared_slice_known-in-codes-1 invariant-codes decreases-codes
 
 abbrev code : Code → ℕ
 code d = get_or (begin d.before).args.codes.now (at d.before) 0
@@ -63,15 +63,15 @@ Further d l k =
 abbrev low-at : tie.After-low invariant-codes decreases-codes → Code
 low-at c = c.before.before
 
-first : (c : tie.After-low invariant-codes decreases-codes) → Further (low-at c) (set (low-at c).before.before.before.codes.dst (n (low-at c).before) c.low.result) 1
+first : (c : tie.After-low invariant-codes decreases-codes) → Further (low-at c) (set (low-at c).codes.dst (n (low-at c).before) c.low.result) 1
 first c =
     let d = low-at c in
     let p = d.before in
     let a = (begin p).args in
     leaping-one p.before.before.codes.invariant (code d) (some p) refl c.low.result c.low.ensures
-    (λ t. writes-ascii (rows_of a.form) (form_writer a.form) a.m (code d) t c.before.if3.true) (omega (arith, four p))
+    (λ t. writes-ascii (rows_of a.form) (form_writer a.form) a.m (code d) t c.if-c-lt128.true) (omega (arith, four p))
 
-abbrev run_at : tie.After-slice-known2 invariant-codes decreases-codes → tie.After-low invariant-codes decreases-codes
+abbrev run_at : tie.After-slice_known-then-c-lt128-1 invariant-codes decreases-codes → tie.After-low invariant-codes decreases-codes
 run_at c = c.before.before.before.before.before
 
 next : (p : Place) → at p + 1 ≤ length (begin p).args.codes.now
@@ -80,97 +80,97 @@ next p = omega (arith, some p)
 lent : (p : Place) → take (length (begin p).args.codes.now - (at p + 1)) (drop (at p + 1) (begin p).args.codes.now) ≡ drop (at p + 1) (begin p).args.codes.now
 lent p = part_to_end (begin p).args.codes.now (at p + 1)
 
-run : (c : tie.After-slice-known2 invariant-codes decreases-codes)
-    → (at (low-at (run_at c)).before + 1 + c.before.before.run_out.result ≤ length (begin (low-at (run_at c)).before).args.codes.now)
-    × (n (low-at (run_at c)).before + 1 + c.before.before.run_out.result ≤ length (low-at (run_at c)).before.before.before.codes.dst)
+run : (c : tie.After-slice_known-then-c-lt128-1 invariant-codes decreases-codes)
+    → (at (low-at (run_at c)).before + 1 + c.run_out-k.result ≤ length (begin (low-at (run_at c)).before).args.codes.now)
+    × (n (low-at (run_at c)).before + 1 + c.run_out-k.result ≤ length (low-at (run_at c)).codes.dst)
 run c =
     let l = run_at c in
-    let (h, g) = leapt-within (first l) Ascii _ _ _ (next (low-at l).before) (lent (low-at l).before) c.before.before.run_out.ensures in
-    (h, omega (arith, g, length-set (low-at l).before.before.before.codes.dst (n (low-at l).before) l.low.result))
+    let (h, g) = leapt-within (first l) Ascii _ _ _ (next (low-at l).before) (lent (low-at l).before) c.run_out-k.ensures in
+    (h, omega (arith, g, length-set (low-at l).codes.dst (n (low-at l).before) l.low.result))
 
-codes-again : tie.Need-codes-preserved invariant-codes decreases-codes
+codes-again : tie.Need-codes-preserved-then-c-lt128 invariant-codes decreases-codes
 codes-again c =
     let l = run_at c in
     let a = (begin (low-at l).before).args in
-    leaping-run (first l) Ascii _ _ _ (next (low-at l).before) (lent (low-at l).before) c.before.before.run_out.ensures (writes-ascii (rows_of a.form) (form_writer a.form) a.m)
+    leaping-run (first l) Ascii _ _ _ (next (low-at l).before) (lent (low-at l).before) c.run_out-k.ensures (writes-ascii (rows_of a.form) (form_writer a.form) a.m)
 
 -- ---- two to four bytes
 
-codes-again-2 : tie.Need-codes-preserved-2 invariant-codes decreases-codes
+codes-again-2 : tie.Need-codes-preserved-then-c-lt2048 invariant-codes decreases-codes
 codes-again-2 c =
     let d = c.before.before.before.before.before.before in
     let x = code d in
     let p = d.before in
-    leaping-short p.before.before.codes.invariant x (some p) refl (form_writer (begin p).args.form) _ 2 (omega (arith, c.before.before.before.before.if4.true)) (λ u. omega (arith, c.before.before.before.before.if4.true))
-    (ap length (pattern-two x (omega (arith, c.before.before.before.before.before.if3.false)) (omega (arith, c.before.before.before.before.if4.true)))) (omega (arith, four p)) c.before.before.put2.ensures
+    leaping-short p.codes.invariant x (some p) refl (form_writer (begin p).args.form) _ 2 (omega (arith, c.if-c-lt2048.true)) (λ u. omega (arith, c.if-c-lt2048.true))
+    (ap length (pattern-two x (omega (arith, c.if-c-lt128.false)) (omega (arith, c.if-c-lt2048.true)))) (omega (arith, four p)) c.put2.ensures
 
-codes-again-3 : tie.Need-codes-preserved-3 invariant-codes decreases-codes
+codes-again-3 : tie.Need-codes-preserved-then-c-lt55296 invariant-codes decreases-codes
 codes-again-3 c =
     let d = c.before.before.before.before.before.before.before in
     let x = code d in
     let p = d.before in
-    leaping-short p.before.before.codes.invariant x (some p) refl (form_writer (begin p).args.form) _ 3 (omega (arith, c.before.before.before.before.if5.true)) (λ u. omega (arith, c.before.before.before.before.if5.true))
-    (ap length (pattern-three x (omega (arith, c.before.before.before.before.before.if4.false)) (omega (arith, c.before.before.before.before.if5.true)))) (omega (arith, four p)) c.before.before.put3.ensures
+    leaping-short p.codes.invariant x (some p) refl (form_writer (begin p).args.form) _ 3 (omega (arith, c.if-c-lt55296.true)) (λ u. omega (arith, c.if-c-lt55296.true))
+    (ap length (pattern-three x (omega (arith, c.if-c-lt2048.false)) (omega (arith, c.if-c-lt55296.true)))) (omega (arith, four p)) c.put3.ensures
 
-codes-again-4 : tie.Need-codes-preserved-4 invariant-codes decreases-codes
+codes-again-4 : tie.Need-codes-preserved-then-c-gt65535 invariant-codes decreases-codes
 codes-again-4 c =
     let d = c.before.before.before.before.before.before.before.before.before.before.before in
     let x = code d in
     let p = d.before in
-    leaping-long p.before.before.codes.invariant x (some p) refl (form_writer (begin p).args.form) _ (pattern x) 4 (omega (arith, c.before.before.before.before.before.before.before.if6.true)) (omega (arith, c.before.before.before.before.before.before.if7.false))
-    (c.before.before.before.before.before.has-pairs.ensures c.before.before.before.before.if8.false x (omega (arith, c.before.before.before.before.before.before.before.if6.true)) (omega (arith, c.before.before.before.before.before.before.if7.false))) (ap length (pattern_four x (omega (arith, c.before.before.before.before.before.before.before.if6.true)))) (four p) c.before.before.put4.ensures
+    leaping-long p.codes.invariant x (some p) refl (form_writer (begin p).args.form) _ (pattern x) 4 (omega (arith, c.if-c-gt65535.true)) (omega (arith, c.if-c-gt1114111.false))
+    (c.has_pairs.ensures c.if-has_pairs.false x (omega (arith, c.if-c-gt65535.true)) (omega (arith, c.if-c-gt1114111.false))) (ap length (pattern_four x (omega (arith, c.if-c-gt65535.true)))) (four p) c.put4.ensures
 
-codes-again-5 : tie.Need-codes-preserved-5 invariant-codes decreases-codes
+codes-again-5 : tie.Need-codes-preserved-then-c-gt57343 invariant-codes decreases-codes
 codes-again-5 c =
     let d = c.before.before.before.before.before.before.before.before.before in
     let x = code d in
     let p = d.before in
-    leaping-short p.before.before.codes.invariant x (some p) refl (form_writer (begin p).args.form) _ 3 (omega (arith, c.before.before.before.before.before.if6.false)) (λ u. omega (arith, c.before.before.before.before.if9.true))
-    (ap length (pattern-three x (omega (arith, c.before.before.before.before.if9.true)) (omega (arith, c.before.before.before.before.before.if6.false)))) (omega (arith, four p)) c.before.before.put32.ensures
+    leaping-short p.codes.invariant x (some p) refl (form_writer (begin p).args.form) _ 3 (omega (arith, c.if-c-gt65535.false)) (λ u. omega (arith, c.if-c-gt57343.true))
+    (ap length (pattern-three x (omega (arith, c.if-c-gt57343.true)) (omega (arith, c.if-c-gt65535.false)))) (omega (arith, four p)) c.put3-then-c-gt57343.ensures
 
 -- ---- escapes
 
-abbrev escape-at : tie.After-low2 invariant-codes decreases-codes → Code
+abbrev escape-at : tie.After-low-in-codes invariant-codes decreases-codes → Code
 escape-at c = c.before.before.before.before.before.before.before.before.before.before
 
-lax : (c : tie.After-low2 invariant-codes decreases-codes) → ((begin (escape-at c).before).args.m.strict ≡ false) × ((begin (escape-at c).before).args.m.surro ≡ false)
-lax c = c.before.before.before.before.careful.ensures c.before.before.before.if10.false
+lax : (c : tie.After-low-in-codes invariant-codes decreases-codes) → ((begin (escape-at c).before).args.m.strict ≡ false) × ((begin (escape-at c).before).args.m.surro ≡ false)
+lax c = c.careful.ensures c.if-careful.false
 
-escaped : (c : tie.After-low2 invariant-codes decreases-codes) → Further (escape-at c) (set (escape-at c).before.before.before.codes.dst (n (escape-at c).before) c.low2.result) 1
+escaped : (c : tie.After-low-in-codes invariant-codes decreases-codes) → Further (escape-at c) (set (escape-at c).codes.dst (n (escape-at c).before) c.low-in-codes.result) 1
 escaped c =
     let d = escape-at c in
     let p = d.before in
     let a = (begin p).args in
-    leaping-one p.before.before.codes.invariant (code d) (some p) refl c.low2.result c.low2.ensures
-    (λ t. writes-escape (rows_of a.form) (form_writer a.form) a.m (code d) t (lax c).1 (lax c).0 (c.before.before.no-escape.ensures c.before.if11.false)) (omega (arith, four p))
+    leaping-one p.before.before.codes.invariant (code d) (some p) refl c.low-in-codes.result c.low-in-codes.ensures
+    (λ t. writes-escape (rows_of a.form) (form_writer a.form) a.m (code d) t (lax c).1 (lax c).0 (c.no_escape.ensures c.if-no_escape.false)) (omega (arith, four p))
 
-abbrev escapes-at : tie.After-slice-known7 invariant-codes decreases-codes → tie.After-low2 invariant-codes decreases-codes
+abbrev escapes-at : tie.After-slice_known-in-codes-1 invariant-codes decreases-codes → tie.After-low-in-codes invariant-codes decreases-codes
 escapes-at c = c.before.before.before.before.before
 
-escapes : (c : tie.After-slice-known7 invariant-codes decreases-codes)
-    → (at (escape-at (escapes-at c)).before + 1 + c.before.before.escapes-out.result ≤ length (begin (escape-at (escapes-at c)).before).args.codes.now)
-    × (n (escape-at (escapes-at c)).before + 1 + c.before.before.escapes-out.result ≤ length (escape-at (escapes-at c)).before.before.before.codes.dst)
+escapes : (c : tie.After-slice_known-in-codes-1 invariant-codes decreases-codes)
+    → (at (escape-at (escapes-at c)).before + 1 + c.escapes_out-k.result ≤ length (begin (escape-at (escapes-at c)).before).args.codes.now)
+    × (n (escape-at (escapes-at c)).before + 1 + c.escapes_out-k.result ≤ length (escape-at (escapes-at c)).codes.dst)
 escapes c =
     let l = escapes-at c in
-    let (h, g) = leapt-within (escaped l) Single _ _ _ (next (escape-at l).before) (lent (escape-at l).before) c.before.before.escapes-out.ensures in
-    (h, omega (arith, g, length-set (escape-at l).before.before.before.codes.dst (n (escape-at l).before) l.low2.result))
+    let (h, g) = leapt-within (escaped l) Single _ _ _ (next (escape-at l).before) (lent (escape-at l).before) c.escapes_out-k.ensures in
+    (h, omega (arith, g, length-set (escape-at l).codes.dst (n (escape-at l).before) l.low-in-codes.result))
 
-codes-again-6 : tie.Need-codes-preserved-6 invariant-codes decreases-codes
+codes-again-6 : tie.Need-codes-preserved invariant-codes decreases-codes
 codes-again-6 c =
     let l = escapes-at c in
     let a = (begin (escape-at l).before).args in
-    leaping-run (escaped l) Single _ _ _ (next (escape-at l).before) (lent (escape-at l).before) c.before.before.escapes-out.ensures
+    leaping-run (escaped l) Single _ _ _ (next (escape-at l).before) (lent (escape-at l).before) c.escapes_out-k.ensures
     (λ x t. writes-single (rows_of a.form) (form_writer a.form) a.m x t (lax l).1 (lax l).0)
 
-pub leap-spec : {M : Type 1} → statement M
-leap-spec =
+pub leap_spec : {M : Type 1} → statement M
+leap_spec =
     tie.close
     (tie.spec
     invariant-codes
     decreases-codes
     (λ c. onward-start _ _ _ _ _ _)
     (λ c. leaping_start _ _ _ _ _ _ (omega arith))
-    (λ c. c.before.codes.invariant.room)
+    (λ c. c.codes.invariant.room)
     (λ c. scaled_Fits _ _ 4 (some c) (begin c).well_formed.1.1.0.1)
     (λ c. some c.before)
     (λ c κs. tt)
@@ -228,15 +228,15 @@ leap-spec =
     (λ c. omega (arith, (escapes c).1))
     (λ c. omega (arith, some (escape-at (escapes-at c)).before))
     codes-again-6
-    (λ c. c.before.codes.invariant.onward.same)
-    (λ c. c.before.codes.invariant.onward)
-    (λ c. c.before.before.codes.invariant.onward.same)
-    (λ c. c.before.before.codes.invariant.onward)
-    (λ c. c.before.before.before.before.before.before.before.before.codes.invariant.onward.same)
-    (λ c. c.before.before.before.before.before.before.before.before.codes.invariant.onward)
-    (λ c. c.before.before.before.before.before.before.before.before.before.before.codes.invariant.onward.same)
-    (λ c. c.before.before.before.before.before.before.before.before.before.before.codes.invariant.onward)
-    (λ c. c.before.before.before.before.before.before.before.before.before.before.codes.invariant.onward.same)
-    (λ c. c.before.before.before.before.before.before.before.before.before.before.codes.invariant.onward)
-    (λ c. c.before.before.before.before.before.before.before.before.before.before.before.before.codes.invariant.onward.same)
-    (λ c. c.before.before.before.before.before.before.before.before.before.before.before.before.codes.invariant.onward))
+    (λ c. c.codes.invariant.onward.same)
+    (λ c. c.codes.invariant.onward)
+    (λ c. c.codes.invariant.onward.same)
+    (λ c. c.codes.invariant.onward)
+    (λ c. c.codes.invariant.onward.same)
+    (λ c. c.codes.invariant.onward)
+    (λ c. c.codes.invariant.onward.same)
+    (λ c. c.codes.invariant.onward)
+    (λ c. c.codes.invariant.onward.same)
+    (λ c. c.codes.invariant.onward)
+    (λ c. c.codes.invariant.onward.same)
+    (λ c. c.codes.invariant.onward))

@@ -14,31 +14,31 @@ invariant-ones codes dst₀ end n₀ dst n = Run Ascii codes dst₀ dst end n
 abbrev decreases-ones : tie.decreases-ones
 decreases-ones codes dst₀ end n₀ dst n = end - n
 
-abbrev start : tie.In-ones invariant-ones decreases-ones → tie.Start invariant-ones decreases-ones
+abbrev start : tie.Else-n-end invariant-ones decreases-ones → tie.Start invariant-ones decreases-ones
 start c = c.before.before.before.before.before
 
-some : (c : tie.In-ones invariant-ones decreases-ones) → c.before.ones.n < c.before.before.lesser.result
-some c = omega (arith, c.before.ones.invariant.within)
+some : (c : tie.Else-n-end invariant-ones decreases-ones) → c.ones.n < c.lesser-end.result
+some c = omega (arith, c.ones.invariant.within)
 
-abbrev place : tie.After-low invariant-ones decreases-ones → tie.In-ones invariant-ones decreases-ones
+abbrev place : tie.After-low invariant-ones decreases-ones → tie.Else-n-end invariant-ones decreases-ones
 place c = c.before.before.before
 
-pub ones-out-spec : {M : Type 1} → statement M
-ones-out-spec =
+pub ones_out_spec : {M : Type 1} → statement M
+ones_out_spec =
     tie.close
     (tie.spec
     invariant-ones
     decreases-ones
     (λ c κs. search rules)
-    (λ c. run-start _ _ _ _ c.lesser.ensures)
-    (λ c. scaled_Fits _ _ 4 (run-some c.before.ones.invariant (some c)).0 (start c).well_formed.0.1)
-    (λ c. (run-some c.before.before.ones.invariant (some c.before)).0)
+    (λ c. run-start _ _ _ _ c.lesser-end.ensures)
+    (λ c. scaled_Fits _ _ 4 (run-some c.ones.invariant (some c)).0 (start c).well_formed.0.1)
+    (λ c. (run-some c.ones.invariant (some c.before)).0)
     (λ c κs. search rules)
-    (λ c. (run-some (place c).before.ones.invariant (some (place c))).1)
-    (λ c. omega (arith, (run-some (place c).before.ones.invariant (some (place c))).1))
+    (λ c. (run-some (place c).ones.invariant (some (place c))).1)
+    (λ c. omega (arith, (run-some (place c).ones.invariant (some (place c))).1))
     (λ c. omega (arith, some (place c)))
-    (λ c. run-next (place c).before.ones.invariant _ _ _ refl (some (place c)) refl (omega (arith, c.before.if1.false)) c.low.ensures)
-    (λ c. run-same c.before.ones.invariant)
-    (λ c. c.before.ones.invariant.singled)
-    (λ c. run-same c.before.before.before.ones.invariant)
-    (λ c. c.before.before.before.ones.invariant.singled))
+    (λ c. run-next (place c).ones.invariant _ _ _ refl (some (place c)) refl (omega (arith, c.if-c-ge128.false)) c.low.ensures)
+    (λ c. run-same c.ones.invariant)
+    (λ c. c.ones.invariant.singled)
+    (λ c. run-same c.ones.invariant)
+    (λ c. c.ones.invariant.singled))

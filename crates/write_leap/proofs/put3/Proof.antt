@@ -7,10 +7,10 @@ use Rattle.write_leap.proofs.put3.Statement.{statement}
 use Rattle.write_leap.proofs.put3.Tie as tie
 
 returns : tie.Need-returns
-returns c = let s = c.before.before.before in put_three s.args.dst.now s.args.n s.args.c _ _ s.requires.0 s.requires.1 s.requires.2 c.before.mark.ensures c.mark2.ensures
+returns c = let s = c.before.before.before in put_three s.args.dst.now s.args.n s.args.c _ _ s.requires.0 s.requires.1 s.requires.2 c.mark.ensures c.mark-2.ensures
 
-pub put3-spec : {M : Type 1} → statement M
-put3-spec =
+pub put3_spec : {M : Type 1} → statement M
+put3_spec =
     tie.close
     (tie.spec
     (λ c. search rules)

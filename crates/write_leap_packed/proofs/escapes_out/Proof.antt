@@ -18,35 +18,35 @@ invariant-ones codes dst₀ end n₀ dst n = Run Single (codes_of codes) dst₀ 
 abbrev decreases-ones : tie.decreases-ones
 decreases-ones codes dst₀ end n₀ dst n = end - n
 
-some : (c : tie.In-ones invariant-ones decreases-ones) → c.before.ones.n < c.before.before.lesser.result
-some c = omega (arith, c.before.ones.invariant.within)
+some : (c : tie.Else-n-end invariant-ones decreases-ones) → c.ones.n < c.lesser-end.result
+some c = omega (arith, c.ones.invariant.within)
 
-abbrev codes : tie.In-ones invariant-ones decreases-ones → List ℕ
-codes c = c.before.before.before.before.before.args.codes.now
+abbrev codes : tie.Else-n-end invariant-ones decreases-ones → List ℕ
+codes c = c.args.codes.now
 
-whole : (c : tie.In-ones invariant-ones decreases-ones) → c.before.ones.n * 4 + 4 ≤ length (codes c)
-whole c = whole-at (codes c) c.before.ones.n (run-some c.before.ones.invariant (some c)).0
+whole : (c : tie.Else-n-end invariant-ones decreases-ones) → c.ones.n * 4 + 4 ≤ length (codes c)
+whole c = whole-at (codes c) c.ones.n (run-some c.ones.invariant (some c)).0
 
-abbrev place : tie.After-low invariant-ones decreases-ones → tie.In-ones invariant-ones decreases-ones
+abbrev place : tie.After-low invariant-ones decreases-ones → tie.Else-n-end invariant-ones decreases-ones
 place c = c.before.before.before.before
 
-pub escapes-out-spec : {M : Type 1} → statement M
-escapes-out-spec =
+pub escapes_out_spec : {M : Type 1} → statement M
+escapes_out_spec =
     tie.close
     (tie.spec
     invariant-ones
     decreases-ones
     (λ c κs. search rules)
-    (λ c. run-start _ _ _ _ (bound_of c.before.before.before.args.codes.now _ _ c.lesser.ensures))
+    (λ c. run-start _ _ _ _ (bound_of c.args.codes.now _ _ c.lesser-end.ensures))
     (λ c. omega (arith, whole c))
     (λ c κs. whole c)
     (λ c κs. search rules)
     (λ c κs. search rules)
-    (λ c. (run-some (place c).before.ones.invariant (some (place c))).1)
-    (λ c. omega (arith, (run-some (place c).before.ones.invariant (some (place c))).1))
+    (λ c. (run-some (place c).ones.invariant (some (place c))).1)
+    (λ c. omega (arith, (run-some (place c).ones.invariant (some (place c))).1))
     (λ c. omega (arith, some (place c)))
-    (λ c. run-next (place c).before.ones.invariant _ _ _ refl (some (place c)) (code_of (codes (place c)) (place c).before.ones.n _ _ refl (run-some (place c).before.ones.invariant (some (place c))).0 c.before.before.before.code_at.ensures) (c.before.before.no-single.ensures c.before.if1.false) c.low.ensures)
-    (λ c. run-same c.before.ones.invariant)
-    (λ c. c.before.ones.invariant.singled)
-    (λ c. run-same c.before.before.before.before.ones.invariant)
-    (λ c. c.before.before.before.before.ones.invariant.singled))
+    (λ c. run-next (place c).ones.invariant _ _ _ refl (some (place c)) (code_of (codes (place c)) (place c).ones.n _ _ refl (run-some (place c).ones.invariant (some (place c))).0 c.code_at-c.ensures) (c.no_single.ensures c.if-no_single.false) c.low.ensures)
+    (λ c. run-same c.ones.invariant)
+    (λ c. c.ones.invariant.singled)
+    (λ c. run-same c.ones.invariant)
+    (λ c. c.ones.invariant.singled))

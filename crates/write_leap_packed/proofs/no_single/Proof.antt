@@ -4,5 +4,5 @@ use borrow.Author.Rules.{rules}
 use Rattle.write_leap_packed.proofs.no_single.Statement.{statement}
 use Rattle.write_leap_packed.proofs.no_single.Tie as tie
 
-pub no-single-spec : {M : Type 1} → statement M
-no-single-spec = tie.close (tie.spec (λ c e. inl c.if1.true) (λ c κs. search rules) (λ c e. inr (c.no-escape.ensures e)))
+pub no_single_spec : {M : Type 1} → statement M
+no_single_spec = tie.close (tie.spec (λ c e. inl c.if-c-lt128.true) (λ c κs. search rules) (λ c e. inr (c.no_escape.ensures e)))

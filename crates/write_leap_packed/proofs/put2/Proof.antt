@@ -9,8 +9,8 @@ use Rattle.write_leap_packed.proofs.put2.Tie as tie
 returns : tie.Need-returns
 returns c = let s = c.before.before in put_two s.args.dst.now s.args.n s.args.c _ s.requires.0 s.requires.1 s.requires.2 c.mark.ensures
 
-pub put2-spec : {M : Type 1} → statement M
-put2-spec =
+pub put2_spec : {M : Type 1} → statement M
+put2_spec =
     tie.close
     (tie.spec
     (λ c. search rules)

@@ -7,10 +7,10 @@ use Rattle.write_leap_packed.proofs.put4.Statement.{statement}
 use Rattle.write_leap_packed.proofs.put4.Tie as tie
 
 returns : tie.Need-returns
-returns c = let s = c.before.before.before.before in put_four s.args.dst.now s.args.n s.args.c _ _ _ s.requires.0 s.requires.2 c.before.before.mark.ensures c.before.mark2.ensures c.mark3.ensures
+returns c = let s = c.before.before.before.before in put_four s.args.dst.now s.args.n s.args.c _ _ _ s.requires.0 s.requires.2 c.mark.ensures c.mark-2.ensures c.mark-3.ensures
 
-pub put4-spec : {M : Type 1} → statement M
-put4-spec =
+pub put4_spec : {M : Type 1} → statement M
+put4_spec =
     tie.close
     (tie.spec
     (λ c. search rules)

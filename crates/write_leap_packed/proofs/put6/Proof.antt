@@ -22,31 +22,31 @@ returns c =
     let e3 : n + 3 ≡ suc (suc (suc n)) = omega arith in
     let e4 : n + 4 ≡ suc (suc (suc (suc n))) = omega arith in
     let e5 : n + 5 ≡ suc (suc (suc (suc (suc n)))) = omega arith in
-    rw (e1, e2, e3, e4, e5, c.before.mark.ensures, c.mark2.ensures, cesu-long x u l refl refl s.requires.0 s.requires.1)
+    rw (e1, e2, e3, e4, e5, c.mark.ensures, c.mark-2.ensures, cesu-long x u l refl refl s.requires.0 s.requires.1)
     (sets-eq (0xED ∷ (0xA0 + u / 0x40) ∷ (0x80 + u % 0x40) ∷ 0xED ∷ (0xB0 + l / 0x40) ∷ (0x80 + l % 0x40) ∷ []) s.args.dst.now n s.requires.2)
 
-pub put6-spec : {M : Type 1} → statement M
-put6-spec =
+pub put6_spec : {M : Type 1} → statement M
+put6_spec =
     tie.close
     (tie.spec
-    (λ c. omega (arith, c.before.requires.0))
-    (λ c. omega (arith, c.before.requires.0))
-    (λ c. omega (arith, c.before.requires.2))
-    (λ c. omega (arith, c.before.requires))
-    (λ c. omega (arith, c.before.requires))
-    (λ c. omega (arith, c.before.requires.2))
-    (λ c. simp length-set (omega (arith, c.before.requires.2)))
+    (λ c. omega (arith, c.requires.0))
+    (λ c. omega (arith, c.requires.0))
+    (λ c. omega (arith, c.requires.2))
+    (λ c. omega (arith, c.requires))
+    (λ c. omega (arith, c.requires))
+    (λ c. omega (arith, c.requires.2))
+    (λ c. simp length-set (omega (arith, c.requires.2)))
     (λ c κs. search rules)
-    (λ c. omega (arith, c.before.before.requires.2))
-    (λ c. simp length-set (omega (arith, c.before.before.requires.2)))
-    (λ c. omega (arith, c.before.before.requires.2))
-    (λ c. simp length-set (omega (arith, c.before.before.requires.2)))
-    (λ c. omega (arith, c.before.before.requires))
-    (λ c. omega (arith, c.before.before.requires))
-    (λ c. omega (arith, c.before.before.requires.2))
-    (λ c. simp length-set (omega (arith, c.before.before.requires.2)))
+    (λ c. omega (arith, c.requires.2))
+    (λ c. simp length-set (omega (arith, c.requires.2)))
+    (λ c. omega (arith, c.requires.2))
+    (λ c. simp length-set (omega (arith, c.requires.2)))
+    (λ c. omega (arith, c.requires))
+    (λ c. omega (arith, c.requires))
+    (λ c. omega (arith, c.requires.2))
+    (λ c. simp length-set (omega (arith, c.requires.2)))
     (λ c κs. search rules)
-    (λ c. omega (arith, c.before.before.before.requires.2))
-    (λ c. simp length-set (omega (arith, c.before.before.before.requires.2)))
+    (λ c. omega (arith, c.requires.2))
+    (λ c. simp length-set (omega (arith, c.requires.2)))
     (λ c. simp length-set refl)
     returns)

@@ -20,12 +20,12 @@ pasted d n b zero h g = rw (← paste-zero d n b, add-zero n) at (paste-suc d n 
 pasted d n b (suc j) h g = rw (pasted d n b j (omega arith) (omega arith)) (paste-suc d n b (suc j) 0 (omega arith) g)
 
 -- where the byte at j is the last
-all_stored : (c : tie.Start) (j : ℕ) → c.args.t3.count ≡ suc j
-    → stored c.args.dst.now c.args.n c.args.t3.bytes j ≡ paste c.args.dst.now c.args.n c.args.t3.bytes c.args.t3.count
+all_stored : (c : tie.Start) (j : ℕ) → c.args.w.count ≡ suc j
+    → stored c.args.dst.now c.args.n c.args.w.bytes j ≡ paste c.args.dst.now c.args.n c.args.w.bytes c.args.w.count
 all_stored c j e =
     let a = c.args in
-    let six : length a.t3.bytes ≡ 6 = search rules in
-    rw e (pasted a.dst.now a.n a.t3.bytes j (omega arith) (omega arith))
+    let six : length a.w.bytes ≡ 6 = search rules in
+    rw e (pasted a.dst.now a.n a.w.bytes j (omega arith) (omega arith))
 
 pub put_spec : {M : Type 1} → statement M
 put_spec =

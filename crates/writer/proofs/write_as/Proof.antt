@@ -59,7 +59,7 @@ put-requires : tie.Need-put-requires invariant-codes decreases-codes
 put-requires c κs =
     let w = with-room c in
     let r = (place w).codes.invariant in
-    let o = some-offered (rows_of (start (place w)).args.form) (form_writer (start (place w)).args.form) (start (place w)).args.m (code w) w.written.result (is-given w) c.if-w-eq0.false in
+    let o = some-offered (rows_of (start (place w)).args.form) (form_writer (start (place w)).args.form) (start (place w)).args.m (code w) w.written-w.result (is-given w) c.if-w-eq0.false in
     (omega arith, o.most, omega (arith, r.room, r.same))
 
 add-n : tie.Need-overflow_add-n invariant-codes decreases-codes
@@ -75,7 +75,7 @@ codes-again : tie.Need-codes-preserved invariant-codes decreases-codes
 codes-again c =
     let w = with-room (turn c) in
     rw c.put.ensures
-    (reached-next (place w).codes.invariant (form_writer (start (place w)).args.form) w.written.result (is_code w) (is-given w) (turn c).if-w-eq0.false (omega arith))
+    (reached-next (place w).codes.invariant (form_writer (start (place w)).args.form) w.written-w.result (is_code w) (is-given w) (turn c).if-w-eq0.false (omega arith))
 
 same_length : tie.Need-shape_of-dst-then-at-codes invariant-codes decreases-codes
 same_length c = c.codes.invariant.same

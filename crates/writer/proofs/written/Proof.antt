@@ -1,6 +1,5 @@
 -- Each branch gives what the writer's definition does in any form. Assumes nothing.
 use mathlib.Core.Path.{◌≡◌, refl, sym, ap, ◌∙◌}
-use mathlib.Core.Logic.{⊎_elim}
 use mathlib.Core.List.{List, [], ◌∷◌}
 use Prim.Native.Nat.{ℕ, ◌-◌, ◌≤◌}
 use native.Mathlib.Omega.{arith}
@@ -11,6 +10,7 @@ use Rattle.sequence.specs.Leaf.{coded_of}
 use Rattle.writings.proofs.Given.{given, given-ascii, given-high, given-surro, given-strict, given-escape, given-other}
 use Rattle.forms.proofs.Forms.{form_writer}
 use Rattle.writer.proofs.written.Statement.{statement}
+use Rattle.writer.proofs.written.Lts.{in_default-via-then-c-lt56448, in_default-via-else-c-lt56448+else-c-lt56576}
 use Rattle.writer.proofs.written.Tie as tie
 
 -- a result that is the bytes of w, where w is given
@@ -64,7 +64,7 @@ returns-6 c =
     let a = (start d).args in
     is-given (start d) _ _ c.bytes_of-in_default.ensures
     (given-other (rows_of a.form) (form_writer a.form) a.m a.c (few d) e.if-m.false e.if-m-2.false
-    (λ h. ⊎_elim (λ w. omega arith) (λ w. omega (arith, w.1.left)) c.in_default.branch))
+    (λ h. elim c.in_default.branch [ in_default-via-then-c-lt56448 w ↦ omega arith | in_default-via-else-c-lt56448+else-c-lt56576 w ↦ omega arith ]))
 
 pub written_spec : {M : Type 1} → statement M
 written_spec =
