@@ -9,16 +9,16 @@ use Rattle.item.proofs.Fronts.{span_none, span-ascii, span_straight}
 use Rattle.item.proofs.span_of.Statement.{statement}
 use Rattle.item.proofs.span_of.Tie as tie
 
-by_straight : (c : tie.After-straight-of) (r : ℕ) → r ≡ max 1 c.straight-of.result.len → r ≡ (leaf_of c.before.before.before.before.before.args.s.now).span
-by_straight c r e = e ∙ ap (λ (q : Straight). max 1 q.len) c.straight-of.ensures ∙ span_straight _ (omega (arith, c.before.before.before.if1.false))
+by_straight : (c : tie.After-straight_of-q) (r : ℕ) → r ≡ max 1 c.straight_of-q.result.len → r ≡ (leaf_of c.args.s.now).span
+by_straight c r e = e ∙ ap (λ (q : Straight). max 1 q.len) c.straight_of-q.ensures ∙ span_straight _ (omega (arith, c.if-s-eq0.false))
 
-pub span-of-spec : {M : Type 1} → statement M
-span-of-spec =
+pub span_of_spec : {M : Type 1} → statement M
+span_of_spec =
     tie.close
     (tie.spec
-    (λ c. span_none _ c.if1.true)
+    (λ c. span_none _ c.if-s-eq0.true)
     (λ c. search rules)
-    (λ c. span-ascii _ (omega arith) c.if2.true)
+    (λ c. span-ascii _ (omega arith) c.if-s-lt128.true)
     (λ c κs. search rules)
     (λ c. by_straight c.before.before 1 (omega arith))
-    (λ c. let u = c.before.before in by_straight u u.straight-of.result.len (omega arith)))
+    (λ c. let u = c.before.before in by_straight u u.straight_of-q.result.len (omega arith)))

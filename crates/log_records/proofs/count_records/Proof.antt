@@ -8,23 +8,23 @@ use Rattle.log_records.proofs.Counting.{Counts, counts_start, counts-pass, count
 use Rattle.log_records.proofs.count_records.Statement.{statement}
 use Rattle.log_records.proofs.count_records.Tie as tie
 
-abbrev invariant-loop : tie.invariant-loop
+abbrev invariant-loop : tie.invariant-loop-at
 invariant-loop log from k at₀ left₀ count₀ at left count = Counts log from k at left count
 
-abbrev decreases-loop : tie.decreases-loop
+abbrev decreases-loop : tie.decreases-loop-at
 decreases-loop log from k at₀ left₀ count₀ at left count = length log - at
 
-abbrev place : tie.After-span-of invariant-loop decreases-loop → tie.At-loop invariant-loop decreases-loop
+abbrev place : tie.After-span_of invariant-loop decreases-loop → tie.At-loop-at invariant-loop decreases-loop
 place c = c.before.before.before
 
-abbrev start : tie.At-loop invariant-loop decreases-loop → tie.Start invariant-loop decreases-loop
+abbrev start : tie.At-loop-at invariant-loop decreases-loop → tie.Start invariant-loop decreases-loop
 start c = c.before.before
 
-step : (c : tie.After-span-of invariant-loop decreases-loop) → Step (start (place c)).args.log.now (place c).loop.at c.Span-of.result
-step c = step_part _ _ _ (omega arith) c.Span-of.ensures
+step : (c : tie.After-span_of invariant-loop decreases-loop) → Step (start (place c)).args.log.now (place c).loop-at.at c.span_of.result
+step c = step_part _ _ _ (omega arith) c.span_of.ensures
 
-pub count-records-spec : {M : Type 1} → statement M
-count-records-spec =
+pub count_records_spec : {M : Type 1} → statement M
+count_records_spec =
     tie.close
     (tie.spec
     invariant-loop
@@ -37,8 +37,8 @@ count-records-spec =
     (λ c. omega (arith, (step c).within))
     (λ c. omega arith)
     (λ c. let d = c.before in omega (arith, (step d).some, (step d).within))
-    (λ c. let d = c.before in counts-pass _ _ _ _ _ _ (place d).loop.invariant _ (step d) (omega arith))
-    (λ c. let d = c.before in omega (arith, (place d).loop.invariant.so_far, (place d).loop.invariant.reached.few, (step d).some, (step d).within))
+    (λ c. let d = c.before in counts-pass _ _ _ _ _ _ (place d).loop-at.invariant _ (step d) (omega arith))
+    (λ c. let d = c.before in omega (arith, (place d).loop-at.invariant.so_far, (place d).loop-at.invariant.reached.few, (step d).some, (step d).within))
     (λ c. let d = c.before in omega (arith, (step d).some, (step d).within))
-    (λ c. let d = c.before in counts-record _ _ _ _ _ _ (place d).loop.invariant _ (step d) (omega arith))
-    (λ c. counts_end _ _ _ _ _ _ c.before.loop.invariant (omega arith)))
+    (λ c. let d = c.before in counts-record _ _ _ _ _ _ (place d).loop-at.invariant _ (step d) (omega arith))
+    (λ c. counts_end _ _ _ _ _ _ c.loop-at.invariant (omega arith)))

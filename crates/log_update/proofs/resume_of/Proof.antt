@@ -31,6 +31,6 @@ resume-of-spec =
     (λ c κs. search rules)
     (λ c. omega arith)
     (λ c. omega arith)
-    (λ c. let d = c.before in resuming-on _ _ _ _ _ _ (place d).loop.invariant (omega arith) d.before.number_of_lem.ensures (sym d.is-standing.ensures ∙ c.if1.true))
-    (λ c. let d = c.before in resuming-stop _ _ _ _ _ _ (place d).loop.invariant (omega arith) d.before.number_of_lem.ensures (sym d.is-standing.ensures ∙ c.if1.false))
+    (λ c. let d = c.before in resuming-on _ _ _ _ _ _ (place d).loop.invariant (omega arith) d.before.number_of.ensures (sym d.is-standing.ensures ∙ c.if1.true))
+    (λ c. let d = c.before in resuming-stop _ _ _ _ _ _ (place d).loop.invariant (omega arith) d.before.number_of.ensures (sym d.is-standing.ensures ∙ c.if1.false))
     (λ c. resuming_end _ _ _ _ _ c.before.loop.invariant (omega arith)))

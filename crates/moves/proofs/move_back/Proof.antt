@@ -12,52 +12,52 @@ use Rattle.state.proofs.Laid.{shows, unit_where}
 use Rattle.moves.proofs.move_back.Statement.{statement}
 use Rattle.moves.proofs.move_back.Tie as tie
 
-abbrev start : tie.After-kind-of → tie.Start
+abbrev start : tie.After-kind_of → tie.Start
 start q = q.before.before
 
-is : (q : tie.After-kind-of) (k : Kind) → q.kind-of.result ≡ k → Is k (sense_of plain (start q).args.s)
-is q k e = told_is q.kind-of.result k (sense_of plain (start q).args.s) e q.kind-of.ensures
+is : (q : tie.After-kind_of) (k : Kind) → q.kind_of.result ≡ k → Is k (sense_of plain (start q).args.s)
+is q k e = told_is q.kind_of.result k (sense_of plain (start q).args.s) e q.kind_of.ensures
 
 at : (s : tie.Start) (x : Sense) → sense_of plain s.args.s ≡ x → back_by x s.args.s s.args.u ≡ step_back s.args.s s.args.u
 unfolding step_back
 at s x e = ap (λ (y : Sense). back_by y s.args.s s.args.u) (sym e)
 
-returns : tie.Need-returns
+returns : tie.Need-returns-in-Starting
 returns c =
-    let q = c.before.before.before in
-    c.back_alone.ensures ∙ at (start q) _ (is q _ c.before.enum_told.given.1)
+    let q = c.before.before in
+    c.back_alone.ensures ∙ at (start q) _ (is q _ c.in-Starting.is)
 
-returns-2 : tie.Need-returns-2
+returns-2 : tie.Need-returns-in-Partial
 returns-2 c =
-    let q = c.before.before.before in
-    c.refused.ensures ∙ at (start q) _ (is q _ c.before.enum-told2.given.1).1
+    let q = c.before.before in
+    c.refused.ensures ∙ at (start q) _ (is q _ c.in-Partial.is).1
 
-returns-3 : tie.Need-returns-3
+returns-3 : tie.Need-returns-in-Trail
 returns-3 c =
-    let q = c.before.before.before in
-    c.refused2.ensures ∙ at (start q) _ (is q _ c.before.enum-told3.given.1).1
+    let q = c.before.before in
+    c.refused-in-Trail.ensures ∙ at (start q) _ (is q _ c.in-Trail.is).1
 
-returns-4 : tie.Need-returns-4
+returns-4 : tie.Need-returns-in-Low
 returns-4 c =
-    let q = c.before.before.before in
-    c.refused3.ensures ∙ at (start q) _ (is q _ c.before.enum-told4.given.1).1
+    let q = c.before.before in
+    c.refused-in-Low.ensures ∙ at (start q) _ (is q _ c.in-Low.is).1
 
-returns-5 : tie.Need-returns-5
+returns-5 : tie.Need-returns-in-High
 returns-5 c =
-    let q = c.before.before.before.before in
-    let s = start q in
-    let (h, e) = is q _ c.before.before.enum-told5.given.1 in
-    let v = shows plain-scans (high h) s.args.s e in
-    let u = c.before.unit-of.ensures ∙ unit_where s.args.s.count h s.args.s.bytes v.within v.says in
-    c.back-after.ensures ∙ ap (λ (x : ℕ). after x s.args.u) u ∙ at s (valid (high h)) e
-
-returns-6 : tie.Need-returns-6
-returns-6 c =
     let q = c.before.before.before in
-    c.refused4.ensures ∙ at (start q) _ (is q _ c.before.enum-told6.given.1)
+    let s = start q in
+    let (h, e) = is q _ c.in-High.is in
+    let v = shows plain-scans (high h) s.args.s e in
+    let u = c.unit_of.ensures ∙ unit_where s.args.s.count h s.args.s.bytes v.within v.says in
+    c.back_after.ensures ∙ ap (λ (x : ℕ). after x s.args.u) u ∙ at s (valid (high h)) e
 
-pub move-back-spec : {M : Type 1} → statement M
-move-back-spec =
+returns-6 : tie.Need-returns-in-Invalid
+returns-6 c =
+    let q = c.before.before in
+    c.refused-in-Invalid.ensures ∙ at (start q) _ (is q _ c.in-Invalid.is)
+
+pub move_back_spec : {M : Type 1} → statement M
+move_back_spec =
     tie.close
     (tie.spec
     (λ c κs. search rules)

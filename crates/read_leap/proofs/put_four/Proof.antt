@@ -17,8 +17,8 @@ returns c =
     let e3 : at + 3 ≡ suc (suc (suc at)) = omega arith in
     rw (e1, e2, e3) (sets-eq (c.args.a ∷ c.args.b ∷ c.args.c ∷ c.args.d ∷ []) c.args.codes.now at c.requires)
 
-pub put-four-spec : {M : Type 1} → statement M
-put-four-spec =
+pub put_four_spec : {M : Type 1} → statement M
+put_four_spec =
     tie.close
     (tie.spec
     (λ c. search rules)

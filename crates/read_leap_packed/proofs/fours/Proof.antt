@@ -55,7 +55,7 @@ again c =
     let s = (bound l).before.before.before.args.s.now in
     let n = l.blocks2.n in
     let k : n + 4 ≤ length s = omega (arith, e.0) in
-    let f = four_of _ _ _ _ (sym c.before.before.before.before.before.all_IsAscii.ensures ∙ c.before.before.before.before.if3.true) in (
+    let f = four_of _ _ _ _ (sym c.before.before.before.before.before.all_ascii.ensures ∙ c.before.before.before.before.if3.true) in (
       c.before.before.put_four.auto.0 ∙ l.blocks2.invariant.0,
       λ z r.
           let q = l.blocks2.invariant.1 z r in

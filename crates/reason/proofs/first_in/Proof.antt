@@ -8,14 +8,14 @@ use Rattle.reason.proofs.Signs.{opens_short, opens_one}
 use Rattle.reason.proofs.first_in.Statement.{statement}
 use Rattle.reason.proofs.first_in.Tie as tie
 
-returns : tie.Need-returns
-returns c = let a = c.before.before.args in sym (opens_short (a.lo to a.hi ∷ []) a.s.now (omega (arith, c.if1.true)))
+returns : tie.Need-returns-then-s-eq0
+returns c = let a = c.args in sym (opens_short (a.lo to a.hi ∷ []) a.s.now (omega (arith, c.if-s-eq0.true)))
 
-returns-2 : tie.Need-returns-2
+returns-2 : tie.Need-returns
 returns-2 c =
     let d = c.before.before in
-    let a = d.before.before.args in
-    c.within.ensures ∙ sym (opens_one (a.lo to a.hi) a.s.now (omega (arith, d.if1.false)))
+    let a = d.args in
+    c.within.ensures ∙ sym (opens_one (a.lo to a.hi) a.s.now (omega (arith, d.if-s-eq0.false)))
 
-pub first-in-spec : {M : Type 1} → statement M
-first-in-spec = tie.close (tie.spec returns (λ c. search rules) (λ c κs. search rules) returns-2)
+pub first_in_spec : {M : Type 1} → statement M
+first_in_spec = tie.close (tie.spec returns (λ c. search rules) (λ c κs. search rules) returns-2)

@@ -15,36 +15,36 @@ use Rattle.reason.proofs.Told.{told-end, told-well, told_part, told-bad}
 use Rattle.reason.proofs.reason_of.Statement.{statement}
 use Rattle.reason.proofs.reason_of.Tie as tie
 
-abbrev bytes : tie.After-front-of → List ℕ
-bytes q = q.before.before.before.before.args.s.now
+abbrev bytes : tie.After-front_of → List ℕ
+bytes q = q.args.s.now
 
-abbrev place : tie.After-front-of → ℕ
-place q = q.before.before.before.before.args.place
+abbrev place : tie.After-front_of → ℕ
+place q = q.args.place
 
-finds : (q : tie.After-front-of) (x : Front) → q.front_of.result ≡ x → Finds x (scan plain (drop (place q) (bytes q)))
+finds : (q : tie.After-front_of) (x : Front) → q.front_of.result ≡ x → Finds x (scan plain (drop (place q) (bytes q)))
 finds q x e =
     subst (λ (d : List ℕ). Finds x (scan plain d)) (part_to_end (bytes q) (place q))
     (subst (λ (f : Front). Finds f (scan plain (take (length (bytes q) - place q) (drop (place q) (bytes q))))) e
     (told-finds q.front_of.result _ _ q.front_of.ensures))
 
-returns : tie.Need-returns
-returns c = let s = c.before.before in told-end s.args.s.now s.args.place c.if1.true
+returns : tie.Need-returns-then-s-place
+returns c = let s = c.before.before in told-end s.args.s.now s.args.place c.if-s-place.true
 
-returns-2 : tie.Need-returns-2
-returns-2 c = let q = c.before.before in told-well (bytes q) (place q) _ _ (finds q _ c.enum_told.given.1)
+returns-2 : tie.Need-returns-in-Well
+returns-2 c = let q = c.before in told-well (bytes q) (place q) _ _ (finds q _ c.in-Well.is)
 
-returns-3 : tie.Need-returns-3
-returns-3 c = let q = c.before.before in told_part (bytes q) (place q) (omega (arith, q.before.before.if1.false)) (finds q _ c.enum-told2.given.1)
+returns-3 : tie.Need-returns-in-Partial
+returns-3 c = let q = c.before in told_part (bytes q) (place q) (omega (arith, q.if-s-place.false)) (finds q _ c.in-Partial.is)
 
-returns-4 : tie.Need-returns-4
+returns-4 : tie.Need-returns-in-Bad
 returns-4 c =
     let e = c.before.before in
-    let q = e.before.before in
-    let (m, f, i) = finds q _ e.enum-told3.given.1 in
+    let q = e.before in
+    let (m, f, i) = finds q _ e.in-Bad.is in
     c.judge.ensures ∙ ap (λ (d : List ℕ). number (judged d)) (part_to_end (bytes q) (place q)) ∙ told-bad (bytes q) (place q) m f
 
-pub reason-of-spec : {M : Type 1} → statement M
-reason-of-spec =
+pub reason_of_spec : {M : Type 1} → statement M
+reason_of_spec =
     tie.close
     (tie.spec
     returns

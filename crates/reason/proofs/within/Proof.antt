@@ -5,11 +5,11 @@ use native.Mathlib.Omega.{arith}
 use Rattle.reason.proofs.within.Statement.{statement}
 use Rattle.reason.proofs.within.Tie as tie
 
-returns : tie.Need-returns
-returns c = let a = c.before.args in rw (le-leb a.lo a.b c.if1.true) refl
+returns : tie.Need-returns-then-lo-b
+returns c = let a = c.args in rw (le-leb a.lo a.b c.if-lo-b.true) refl
 
-returns-2 : tie.Need-returns-2
-returns-2 c = let a = c.before.args in rw (lt-leb a.lo a.b (omega (arith, c.if1.false))) refl
+returns-2 : tie.Need-returns-else-lo-b
+returns-2 c = let a = c.args in rw (lt-leb a.lo a.b (omega (arith, c.if-lo-b.false))) refl
 
-pub within-spec : {M : Type 1} → statement M
-within-spec = tie.close (tie.spec returns returns-2)
+pub within_spec : {M : Type 1} → statement M
+within_spec = tie.close (tie.spec returns returns-2)
