@@ -17,51 +17,51 @@ use Rattle.decode.proofs.Answer.{by-produced}
 use Rattle.decode.proofs.read.Statement.{statement}
 use Rattle.decode.proofs.read.Tie as tie
 
-abbrev invariant-loop : tie.invariant-loop
+abbrev invariant-loop : tie.invariant-loop-at
 invariant-loop form m s codes₀ room at₀ n₀ codes at n = Come as_is (rows_of form) m s codes₀ codes at n
 
-abbrev decreases-loop : tie.decreases-loop
+abbrev decreases-loop : tie.decreases-loop-at
 decreases-loop form m s codes₀ room at₀ n₀ codes at n = length codes₀ - n
 
-abbrev start : tie.At-loop invariant-loop decreases-loop → tie.Start invariant-loop decreases-loop
+abbrev start : tie.At-loop-at invariant-loop decreases-loop → tie.Start invariant-loop decreases-loop
 start p = p.before.before.before
 
 -- where the leap has come to
-abbrev top : tie.After-leap invariant-loop decreases-loop → tie.At-loop invariant-loop decreases-loop
+abbrev top : tie.After-leap-l invariant-loop decreases-loop → tie.At-loop-at invariant-loop decreases-loop
 top l = l.before.before
 
-come : (l : tie.After-leap invariant-loop decreases-loop)
+come : (l : tie.After-leap-l invariant-loop decreases-loop)
     → let a = (start (top l)).args in
-    Come as_is (rows_of a.form) a.m a.s.now a.codes.now l.leap.new.1.1.1.1.0 l.leap.result.at l.leap.result.n
-come l = l.leap.ensures.keeps (start (top l)).args.codes.now (top l).loop.invariant
+    Come as_is (rows_of a.form) a.m a.s.now a.codes.now l.leap-l.new.codes l.leap-l.result.at l.leap-l.result.n
+come l = l.leap-l.ensures.keeps (start (top l)).args.codes.now (top l).loop-at.invariant
 
 -- ---- after an item
 
-abbrev leapt : tie.After-read-one invariant-loop decreases-loop → tie.After-leap invariant-loop decreases-loop
+abbrev leapt : tie.After-read_one-r invariant-loop decreases-loop → tie.After-leap-l invariant-loop decreases-loop
 leapt r = r.before.before.before.before.before.before
 
-item : (r : tie.After-read-one invariant-loop decreases-loop)
+item : (r : tie.After-read_one-r invariant-loop decreases-loop)
     → let l = leapt r in
     let a = (start (top l)).args in
-    let d = l.leap.last.1.1.1.1.0 in
-    let n = l.leap.result.n in
-    Item as_is (rows_of a.form) a.m (length a.codes.now) a.s.now a.codes.now (put_mid n (length d - n) d r.read_one.new.1.1.1.0) l.leap.result.at n r.read_one.result
+    let d = l.leap-l.new.codes in
+    let n = l.leap-l.result.n in
+    Item as_is (rows_of a.form) a.m (length a.codes.now) a.s.now a.codes.now (put_mid n (length d - n) d r.read_one-r.new.codes) l.leap-l.result.at n r.read_one-r.result
 item r =
     let l = leapt r in
     let room = length (start (top l)).args.codes.now in
-    let d = l.leap.last.1.1.1.1.0 in
-    let n = l.leap.result.n in
+    let d = l.leap-l.new.codes in
+    let n = l.leap-l.result.n in
     let k : length (mid_of n (length d - n) d) ≡ room - n = rw (part_to_end d n) (omega (arith, length-drop n d, come_same cells (come l))) in
-    item_lent cells (come l) room (come-room cells (come l)) (min (length (mid_of n (length d - n) d)) 1) (ap (λ (x : ℕ). min x 1) k) _ _ r.read_one.ensures.0 r.read_one.ensures.1
+    item_lent cells (come l) room (come-room cells (come l)) (min (length (mid_of n (length d - n) d)) 1) (ap (λ (x : ℕ). min x 1) k) _ _ r.read_one-r.ensures.0 r.read_one-r.ensures.1
 
-at-fits : (r : tie.After-read-one invariant-loop decreases-loop) → Fits w64 ((leapt r).leap.result.at + r.read_one.result.consumed)
+at-fits : (r : tie.After-read_one-r invariant-loop decreases-loop) → Fits w64 ((leapt r).leap-l.result.at + r.read_one-r.result.consumed)
 at-fits r = omega (arith, (item r).place, (start (top (leapt r))).well_formed.1.1.0.1)
 
-n-fits : (r : tie.After-read-one invariant-loop decreases-loop) → Fits w64 ((leapt r).leap.result.n + r.read_one.result.produced)
+n-fits : (r : tie.After-read_one-r invariant-loop decreases-loop) → Fits w64 ((leapt r).leap-l.result.n + r.read_one-r.result.produced)
 n-fits r = omega (arith, (item r).few, (start (top (leapt r))).well_formed.1.1.1.0.1)
 
 -- once counted
-abbrev some : tie.After-struct-known3 invariant-loop decreases-loop → tie.After-read-one invariant-loop decreases-loop
+abbrev some : tie.After-struct_known-in-loop-at-2-1 invariant-loop decreases-loop → tie.After-read_one-r invariant-loop decreases-loop
 some c = c.before.before.before.before.before
 
 pub read_spec : {M : Type 1} → statement M
@@ -73,7 +73,7 @@ read_spec =
     (λ c. come_start cells _ _ _ _)
     (λ c κs. search rules)
     (λ c. come_same cells (come c.before.before.before))
-    (λ c. let l = c.before.before.before in let a = (start (top l)).args in by-produced (rows_of a.form) a.m a.s.now a.codes.now _ (length a.codes.now) _ (ended cells (come l) _ (come-room cells (come l)) c.if1.true))
+    (λ c. let l = c.before.before.before in let a = (start (top l)).args in by-produced (rows_of a.form) a.m a.s.now a.codes.now _ (length a.codes.now) _ (ended cells (come l) _ (come-room cells (come l)) c.if-at-s.true))
     (λ c. let l = c.before.before.before in omega (arith, (come l).converts.within))
     (λ c. let l = c.before.before.before in omega (arith, (come l).converts.within))
     (λ c. omega arith)
@@ -85,11 +85,11 @@ read_spec =
     (λ c. at-fits c.before.before.before)
     (λ c. n-fits c.before.before.before.before)
     (λ c. (item (some c.before)).same)
-    (λ c. let r = some c.before in let a = (start (top (leapt r))).args in by-produced (rows_of a.form) a.m a.s.now a.codes.now _ (length a.codes.now) _ ((item r).ends (inl c.if2.true)))
+    (λ c. let r = some c.before in let a = (start (top (leapt r))).args in by-produced (rows_of a.form) a.m a.s.now a.codes.now _ (length a.codes.now) _ ((item r).ends (inl c.if-r-ne1.true)))
     (λ c. (item (some c.before.before)).same)
-    (λ c. let r = some c.before.before in let a = (start (top (leapt r))).args in by-produced (rows_of a.form) a.m a.s.now a.codes.now _ (length a.codes.now) _ ((item r).ends (inr c.if3.true)))
+    (λ c. let r = some c.before.before in let a = (start (top (leapt r))).args in by-produced (rows_of a.form) a.m a.s.now a.codes.now _ (length a.codes.now) _ ((item r).ends (inr c.if-n-room.true)))
     (λ c.
     let r = some c.before.before in
     let i = item r in
-    omega (arith, (i.goes_on c.before.if2.false c.if3.false).1, i.few, (leapt r).leap.ensures.forth))
-    (λ c. ((item (some c.before.before)).goes_on c.before.if2.false c.if3.false).0))
+    omega (arith, (i.goes_on c.if-r-ne1.false c.if-n-room.false).1, i.few, (leapt r).leap-l.ensures.forth))
+    (λ c. ((item (some c.before.before)).goes_on c.if-r-ne1.false c.if-n-room.false).0))

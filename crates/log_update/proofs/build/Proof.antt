@@ -7,8 +7,8 @@ use Rattle.log_update.proofs.build.Tie as tie
 abbrev start : tie.After-update → tie.Start
 start c = c.before.before.before.before
 
-pub build-spec : {M : Type 1} → statement M
-build-spec =
+pub build_spec : {M : Type 1} → statement M
+build_spec =
     tie.close
     (tie.spec
     (λ c κs. search rules)

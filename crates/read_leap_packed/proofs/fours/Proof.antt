@@ -13,61 +13,61 @@ use Rattle.read_leap_packed.proofs.Packed.{packed}
 use Rattle.read_leap_packed.proofs.fours.Statement.{statement}
 use Rattle.read_leap_packed.proofs.fours.Tie as tie
 
-abbrev invariant-blocks : tie.invariant-blocks2
+abbrev invariant-blocks : tie.invariant-blocks-2
 invariant-blocks s codes₁ end first n₁ codes n =
     (length codes ≡ length codes₁) × ((z : List ℕ) → Singles (laid_in 4) 0x80 0 s z codes₁ 1 → Singles (laid_in 4) 0x80 0 s z codes n) × (1 ≤ n) × (n ≤ end)
 
-abbrev decreases-blocks : tie.decreases-blocks2
+abbrev decreases-blocks : tie.decreases-blocks-2
 decreases-blocks s codes₁ end first n₁ codes n = end - n
 
 -- the run ends within both buffers
-end-within : (c : tie.After-lesser invariant-blocks decreases-blocks)
-    → (c.lesser.result ≤ length c.before.before.before.args.s.now) × (c.lesser.result * 4 ≤ length c.before.before.before.args.codes.now)
-end-within c = let e = c.lesser.ensures in (omega (arith, e), omega (arith, e))
+end-within : (c : tie.After-lesser-end invariant-blocks decreases-blocks)
+    → (c.lesser-end.result ≤ length c.args.s.now) × (c.lesser-end.result * 4 ≤ length c.args.codes.now)
+end-within c = let e = c.lesser-end.ensures in (omega (arith, e), omega (arith, e))
 
-abbrev bound : tie.At-blocks2 invariant-blocks decreases-blocks → tie.After-lesser invariant-blocks decreases-blocks
+abbrev bound : tie.At-blocks-2 invariant-blocks decreases-blocks → tie.After-lesser-end invariant-blocks decreases-blocks
 bound l = l.before.before.before.before.before.before.before.before.before
 
 -- the first byte stands in the buffer
 begun : (c : tie.After-put invariant-blocks decreases-blocks)
-    → Singles (laid_in 4) 0x80 0 c.before.before.before.before.before.before.before.before.before.args.s.now c.before.before.before.before.before.before.before.before.before.args.codes.now c.put.new.0 1
+    → Singles (laid_in 4) 0x80 0 c.args.s.now c.args.codes.now c.put.new.out 1
 begun c =
     let f = c.before.before.before.before.before.before in
     let e = end-within f in
-    let a = f.before.before.before.args in
+    let a = f.args in
     let b : get_or a.s.now 0 0 < 0x80 = omega arith in
-    singles-put packed (singles-none packed 0x80 0 a.s.now a.codes.now) _ _ _ (omega (arith, e.0)) refl (c.before.wide.ensures ∙ sym (single-ascii _ b)) (λ g. b) (omega (arith, e.1)) c.put.ensures
+    singles-put packed (singles-none packed 0x80 0 a.s.now a.codes.now) _ _ _ (omega (arith, e.0)) refl (c.wide.ensures ∙ sym (single-ascii _ b)) (λ g. b) (omega (arith, e.1)) c.put.ensures
 
-abbrev entered : tie.At-blocks2 invariant-blocks decreases-blocks → tie.After-put invariant-blocks decreases-blocks
+abbrev entered : tie.At-blocks-2 invariant-blocks decreases-blocks → tie.After-put invariant-blocks decreases-blocks
 entered l = l.before.before.before
 
-come : (l : tie.At-blocks2 invariant-blocks decreases-blocks) → Singles (laid_in 4) 0x80 0 (bound l).before.before.before.args.s.now (bound l).before.before.before.args.codes.now l.blocks2.codes l.blocks2.n
-come l = l.blocks2.invariant.1 _ (begun (entered l))
+come : (l : tie.At-blocks-2 invariant-blocks decreases-blocks) → Singles (laid_in 4) 0x80 0 (bound l).args.s.now (bound l).args.codes.now l.blocks-2.codes l.blocks-2.n
+come l = l.blocks-2.invariant.1 _ (begun (entered l))
 
 -- where four bytes are put
-abbrev place : tie.After-slice-known3 invariant-blocks decreases-blocks → tie.At-blocks2 invariant-blocks decreases-blocks
+abbrev place : tie.After-slice_known-then-all_ascii-1 invariant-blocks decreases-blocks → tie.At-blocks-2 invariant-blocks decreases-blocks
 place c = c.before.before.before.before.before.before.before.before.before.before.before
 
-again : tie.Need-blocks2-preserved invariant-blocks decreases-blocks
+again : tie.Need-blocks-2-preserved invariant-blocks decreases-blocks
 again c =
     let l = place c in
     let e = end-within (bound l) in
-    let s = (bound l).before.before.before.args.s.now in
-    let n = l.blocks2.n in
+    let s = (bound l).args.s.now in
+    let n = l.blocks-2.n in
     let k : n + 4 ≤ length s = omega (arith, e.0) in
-    let f = four_of _ _ _ _ (sym c.before.before.before.before.before.all_ascii.ensures ∙ c.before.before.before.before.if3.true) in (
-      c.before.before.put_four.auto.0 ∙ l.blocks2.invariant.0,
+    let f = four_of _ _ _ _ (sym c.all_ascii.ensures ∙ c.if-all_ascii.true) in (
+      c.put_four.auto.out ∙ l.blocks-2.invariant.0,
       λ z r.
-          let q = l.blocks2.invariant.1 z r in
+          let q = l.blocks-2.invariant.1 z r in
           let o = singles-same packed (come l) in
           singles-more packed q (get_or s n 0 ∷ get_or s (n + 1) 0 ∷ get_or s (n + 2) 0 ∷ get_or s (n + 3) 0 ∷ []) _ k (four_taken s n k) (f.below n)
-          (omega (arith, e.1, o, singles-same packed q)) (c.before.before.put_four.ensures ∙ ap (λ (v : List ℕ). take (n * 4) l.blocks2.codes ++ laid_in 4 v ++ drop (n * 4 + 16) l.blocks2.codes) f.ascii),
+          (omega (arith, e.1, o, singles-same packed q)) (c.put_four.ensures ∙ ap (λ (v : List ℕ). take (n * 4) l.blocks-2.codes ++ laid_in 4 v ++ drop (n * 4 + 16) l.blocks-2.codes) f.ascii),
       omega arith,
       omega arith,
     )
 
-pub fours-spec : {M : Type 1} → statement M
-fours-spec =
+pub fours_spec : {M : Type 1} → statement M
+fours_spec =
     tie.close
     (tie.spec
     invariant-blocks

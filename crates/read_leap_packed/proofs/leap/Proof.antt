@@ -25,71 +25,71 @@ start p = p.before.before.before.before.before
 -- a place on the way, with the parameters of the one that the loop is at
 abbrev On : tie.At-places invariant-places decreases-places → List ℕ → ℕ → ℕ → Type 0
 On p d at n =
-    Way (laid_in 4) (λ k. k * 4) (start p).args.form p.before.careful.result (start p).args.s.now (start p).args.codes.now d (start p).args.start (start p).args.begun at n
+    Way (laid_in 4) (λ k. k * 4) (start p).args.form p.careful-care.result (start p).args.s.now (start p).args.codes.now d (start p).args.start (start p).args.begun at n
     × (at ≤ length (start p).args.s.now)
 
 -- by the flags that were given
 by : (p : tie.At-places invariant-places decreases-places) {d : List ℕ} {at n : ℕ} → On p d at n
     → Onward (laid_in 4) (rows_of (start p).args.form) (start p).args.m (start p).args.s.now (start p).args.codes.now d (start p).args.start (start p).args.begun at n
-by p o = o.0.onward (start p).args.m p.before.careful.ensures
+by p o = o.0.onward (start p).args.m p.careful-care.ensures
 
 -- ---- a run of ASCII
 
-abbrev run-place : tie.After-ascii invariant-places decreases-places → tie.At-places invariant-places decreases-places
+abbrev run-place : tie.After-ascii-run invariant-places decreases-places → tie.At-places invariant-places decreases-places
 run-place a = a.before.before.before.before.before.before
 
-ran : (a : tie.After-ascii invariant-places decreases-places)
+ran : (a : tie.After-ascii-run invariant-places decreases-places)
     → let p = run-place a in
-    On p (back p.places.codes (p.places.n * 4) a.ascii.new.1.0) (p.places.at + a.ascii.result) (p.places.n + a.ascii.result)
-ran a = let p = run-place a in way-ascii packed (start p).args.m p.before.careful.ensures (omega arith) p.places.invariant _ _ a.ascii.ensures
+    On p (back p.places.codes (p.places.n * 4) a.ascii-run.new.codes) (p.places.at + a.ascii-run.result) (p.places.n + a.ascii-run.result)
+ran a = let p = run-place a in way-ascii packed (start p).args.m p.careful-care.ensures (omega arith) p.places.invariant _ _ a.ascii-run.ensures
 
 -- ---- a sequence
 
-abbrev sequence-place : tie.After-sequence invariant-places decreases-places → tie.At-places invariant-places decreases-places
+abbrev sequence-place : tie.After-sequence-len invariant-places decreases-places → tie.At-places invariant-places decreases-places
 sequence-place a = a.before.before.before.before.before.before
 
-read : (c : tie.Then4 invariant-places decreases-places)
+read : (c : tie.Then-len-ne0 invariant-places decreases-places)
     → let a = c.before.before.before in
     let p = sequence-place a in
-    On p (back p.places.codes (p.places.n * 4) a.sequence.new.1.1.0) (p.places.at + a.sequence.result) (p.places.n + 1)
+    On p (back p.places.codes (p.places.n * 4) a.sequence-len.new.codes) (p.places.at + a.sequence-len.result) (p.places.n + 1)
 read c =
     let a = c.before.before.before in
     let p = sequence-place a in
-    way-sequence packed (start p).args.m p.before.careful.ensures (omega arith) p.places.invariant _ _ a.sequence.ensures c.if4.true
+    way-sequence packed (start p).args.m p.careful-care.ensures (omega arith) p.places.invariant _ _ a.sequence-len.ensures c.if-len-ne0.true
 
 -- none was found
-passed : (c : tie.Else4 invariant-places decreases-places)
+passed : (c : tie.Else-len-ne0 invariant-places decreases-places)
     → let a = c.before.before.before in
     let p = sequence-place a in
-    On p (back p.places.codes (p.places.n * 4) a.sequence.new.1.1.0) p.places.at p.places.n
+    On p (back p.places.codes (p.places.n * 4) a.sequence-len.new.codes) p.places.at p.places.n
 passed c =
     let a = c.before.before.before in
     let p = sequence-place a in
-    way-passed packed (start p).args.m p.before.careful.ensures (omega arith) p.places.invariant _ _ a.sequence.ensures c.if4.false
+    way-passed packed (start p).args.m p.careful-care.ensures (omega arith) p.places.invariant _ _ a.sequence-len.ensures c.if-len-ne0.false
 
 -- ---- bad bytes
 
-abbrev sequence-before : tie.After-strays invariant-places decreases-places → tie.After-sequence invariant-places decreases-places
+abbrev sequence-before : tie.After-strays-run invariant-places decreases-places → tie.After-sequence-len invariant-places decreases-places
 sequence-before a = a.before.before.before.before.before.before.before
 
-strewn : (a : tie.After-strays invariant-places decreases-places)
+strewn : (a : tie.After-strays-run invariant-places decreases-places)
     → let b = sequence-before a in
     let p = sequence-place b in
-    On p (back (back p.places.codes (p.places.n * 4) b.sequence.last.1.1.0) (p.places.n * 4) a.strays.new.1.0) (p.places.at + a.strays.result) (p.places.n + a.strays.result)
+    On p (back (back p.places.codes (p.places.n * 4) b.sequence-len.new.codes) (p.places.n * 4) a.strays-run.new.codes) (p.places.at + a.strays-run.result) (p.places.n + a.strays-run.result)
 strewn a =
     let b = sequence-before a in
     let p = sequence-place b in
-    way-strays packed (start p).args.m p.before.careful.ensures (omega arith) p.places.invariant _ _ b.sequence.ensures a.before.before.before.before.if4.false a.before.before.before.if5.false _ _ a.strays.ensures
+    way-strays packed (start p).args.m p.careful-care.ensures (omega arith) p.places.invariant _ _ b.sequence-len.ensures a.if-len-ne0.false a.if-care.false _ _ a.strays-run.ensures
 
 -- once a run has been counted
-abbrev after_run : tie.After-slice-known2 invariant-places decreases-places → tie.After-ascii invariant-places decreases-places
+abbrev after_run : tie.After-slice_known-then-s-at-lt128-1 invariant-places decreases-places → tie.After-ascii-run invariant-places decreases-places
 after_run c = c.before.before
 
-abbrev after-strays : tie.After-slice-known4 invariant-places decreases-places → tie.After-strays invariant-places decreases-places
+abbrev after-strays : tie.After-slice_known-in-places-2-1 invariant-places decreases-places → tie.After-strays-run invariant-places decreases-places
 after-strays c = c.before.before
 
-pub leap-spec : {M : Type 1} → statement M
-leap-spec =
+pub leap_spec : {M : Type 1} → statement M
+leap_spec =
     tie.close
     (tie.spec
     invariant-places
@@ -97,14 +97,14 @@ leap-spec =
     (λ c. onward-start packed _ _ _ _ _ _)
     (λ c κs. search rules)
     (λ c. way-start packed _ _ _ _ _ _ (omega arith))
-    (λ c. let y = c.before.places.invariant in omega (arith, y.room, y.same))
+    (λ c. let y = c.places.invariant in omega (arith, y.room, y.same))
     (λ c. omega arith)
     (λ c. omega arith)
     (λ c. omega arith)
     (λ c. omega arith)
-    (λ c. omega (arith, c.before.before.before.before.places.invariant.room))
-    (λ c. omega (arith, c.before.before.before.before.places.invariant.room))
-    (λ c. omega (arith, c.before.before.before.before.places.invariant.room))
+    (λ c. omega (arith, c.places.invariant.room))
+    (λ c. omega (arith, c.places.invariant.room))
+    (λ c. omega (arith, c.places.invariant.room))
     (λ c κs. search rules)
     (λ c. omega (arith, (ran (after_run c)).1))
     (λ c. let y = (ran (after_run c)).0 in omega (arith, y.room, y.same))
@@ -113,9 +113,9 @@ leap-spec =
     (λ c. omega arith)
     (λ c. omega arith)
     (λ c. omega arith)
-    (λ c. omega (arith, c.before.before.before.before.places.invariant.room))
-    (λ c. omega (arith, c.before.before.before.before.places.invariant.room))
-    (λ c. omega (arith, c.before.before.before.before.places.invariant.room))
+    (λ c. omega (arith, c.places.invariant.room))
+    (λ c. omega (arith, c.places.invariant.room))
+    (λ c. omega (arith, c.places.invariant.room))
     (λ c κs. search rules)
     (λ c. omega (arith, (read c).1))
     (λ c. let y = (read c).0 in omega (arith, y.room, y.same))
@@ -132,8 +132,8 @@ leap-spec =
     (λ c. let y = (strewn (after-strays c)).0 in omega (arith, y.room, y.same))
     (λ c. omega (arith, (strewn (after-strays c.before)).1))
     (λ c. (strewn (after-strays c.before)).0)
-    (λ c. c.before.places.invariant.same)
-    (λ c. let p = c.before in p.places.invariant.onward (start p).args.m p.before.careful.ensures)
+    (λ c. c.places.invariant.same)
+    (λ c. let p = c.before in p.places.invariant.onward (start p).args.m p.careful-care.ensures)
     (λ c. (ran (after_run c.before)).0.same)
     (λ c. let a = after_run c.before in by (run-place a) (ran a))
     (λ c. (passed c.before).0.same)

@@ -10,13 +10,13 @@ use Rattle.numbers.specs.Number.{laid_in}
 use Rattle.read_leap_packed.proofs.put.Statement.{statement}
 use Rattle.read_leap_packed.proofs.put.Tie as tie
 
-slice-write-out-2 : tie.Need-slice-write-out-2
+slice-write-out-2 : tie.Need-bounds-out-at-2
 slice-write-out-2 c = simp length-set (omega arith)
 
-slice-write-out-3 : tie.Need-slice-write-out-3
+slice-write-out-3 : tie.Need-bounds-out-at-3
 slice-write-out-3 c = simp length-set (omega arith)
 
-slice-write-out-4 : tie.Need-slice-write-out-4
+slice-write-out-4 : tie.Need-bounds-out-at-4
 slice-write-out-4 c = simp length-set (omega arith)
 
 returns : tie.Need-returns

@@ -54,16 +54,16 @@ four_put : (o : List ℕ) (k a b c d x y z u : ℕ) → x ≡ a → y ≡ b → 
 four_put o k a b c d x y z u e f g i h p q r t e1 e2 e3 e4 = rw (← e, ← f, ← g, ← i) (four o k x y z u h p q r t e1 e2 e3 e4)
 
 -- the places at which the four stand
-abbrev fourth : tie.After-slice-known5 → tie.After-put4
+abbrev fourth : tie.After-slice_known-5-1 → tie.After-put-4
 fourth c = c.before.before
 
-abbrev third : tie.After-put4 → tie.After-put3
+abbrev third : tie.After-put-4 → tie.After-put-3
 third c = c.before.before.before.before.before
 
-abbrev second : tie.After-put3 → tie.After-put2
+abbrev second : tie.After-put-3 → tie.After-put-2
 second c = c.before.before.before.before.before
 
-abbrev first : tie.After-put2 → tie.After-put
+abbrev first : tie.After-put-2 → tie.After-put
 first c = c.before.before.before.before.before
 
 returns : tie.Need-returns
@@ -72,12 +72,12 @@ returns c =
     let c3 = third c4 in
     let c2 = second c3 in
     let c1 = first c2 in
-    let a = c1.before.before.before.before.args in
-    four_put a.out.now a.at _ _ _ _ _ _ _ _ c1.before.wide.ensures c2.before.wide2.ensures c3.before.wide3.ensures c4.before.wide4.ensures
-    c1.before.before.before.before.pre _ _ _ _ c1.put.ensures c2.put2.ensures c3.put3.ensures c4.put4.ensures
+    let a = c1.args in
+    four_put a.out.now a.at _ _ _ _ _ _ _ _ c1.wide.ensures c2.wide-2.ensures c3.wide-3.ensures c4.wide-4.ensures
+    c1.requires _ _ _ _ c1.put.ensures c2.put-2.ensures c3.put-3.ensures c4.put-4.ensures
 
-pub put-four-spec : {M : Type 1} → statement M
-put-four-spec =
+pub put_four_spec : {M : Type 1} → statement M
+put_four_spec =
     tie.close
     (tie.spec
     (λ c κs. search rules)

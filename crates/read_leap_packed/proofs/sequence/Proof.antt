@@ -9,19 +9,19 @@ use Rattle.read_leap_packed.proofs.Packed.{packed}
 use Rattle.read_leap_packed.proofs.sequence.Statement.{statement}
 use Rattle.read_leap_packed.proofs.sequence.Tie as tie
 
-returns-3 : tie.Need-returns-3
+returns-3 : tie.Need-returns
 returns-3 c =
     let e = c.before.before.before.before.before.before in
-    let a = e.before.before.before.before.args in
-    sequenced packed a.form a.s.now a.codes.now _ e.straight-of.result e.straight-of.ensures c.before.before.before.before.if2.false (omega arith) c.before.before.put.ensures
+    let a = e.args in
+    sequenced packed a.form a.s.now a.codes.now _ e.straight_of-q.result e.straight_of-q.ensures c.if-q-eq0.false (omega arith) c.put.ensures
 
-pub sequence-spec : {M : Type 1} → statement M
-sequence-spec =
+pub sequence_spec : {M : Type 1} → statement M
+sequence_spec =
     tie.close
     (tie.spec
     (λ c. inl (refl, refl, λ h. absurd (omega arith)))
     (λ c κs. search rules)
-    (λ c. inl (refl, refl, λ h. ap (λ (q : Straight). q.len) (sym c.before.before.straight-of.ensures) ∙ c.if2.true))
+    (λ c. inl (refl, refl, λ h. ap (λ (q : Straight). q.len) (sym c.straight_of-q.ensures) ∙ c.if-q-eq0.true))
     (λ c κs. omega arith)
-    (λ c. c.before.before.put.auto.0)
+    (λ c. c.put.auto.out)
     returns-3)
