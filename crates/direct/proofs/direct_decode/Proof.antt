@@ -8,7 +8,7 @@ use Rattle.direct.proofs.direct_decode.Tie as tie
 
 returns : tie.Need-returns
 unfolding decoded_of
-returns c = let e = c.before.before.decode.ensures in (ap (λ (r : Decoded). r.produced) e.0, e.1)
+returns c = let e = c.decode-reading.ensures in (ap (λ (r : Decoded). r.produced) e.0, e.1)
 
-pub direct-decode-spec : {M : Type 1} → statement M
-direct-decode-spec = tie.close (tie.spec (λ c κs. search rules) (λ c. search rules) returns)
+pub direct_decode_spec : {M : Type 1} → statement M
+direct_decode_spec = tie.close (tie.spec (λ c κs. search rules) (λ c. search rules) returns)

@@ -8,7 +8,7 @@ use Rattle.direct.proofs.direct_encode.Tie as tie
 
 returns : tie.Need-returns
 unfolding encoded_of
-returns c = let e = c.before.before.encode.ensures in (ap (λ (r : Encoded). r.produced) e.0, e.1)
+returns c = let e = c.encode-writing.ensures in (ap (λ (r : Encoded). r.produced) e.0, e.1)
 
-pub direct-encode-spec : {M : Type 1} → statement M
-direct-encode-spec = tie.close (tie.spec (λ c κs. search rules) (λ c. search rules) returns)
+pub direct_encode_spec : {M : Type 1} → statement M
+direct_encode_spec = tie.close (tie.spec (λ c κs. search rules) (λ c. search rules) returns)

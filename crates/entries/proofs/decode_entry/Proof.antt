@@ -21,19 +21,19 @@ use Rattle.entries.proofs.Answers.{refuses, tells, decode-given}
 use Rattle.entries.proofs.decode_entry.Statement.{statement}
 use Rattle.entries.proofs.decode_entry.Tie as tie
 
-returns : tie.Need-returns
+returns : tie.Need-returns-then-report-ne-REPORT
 unfolding decode_entry_in
-returns c = simp (ne_eqb _ _ c.if1.true)
+returns c = simp (ne_eqb _ _ c.if-report-ne-REPORT.true)
 
-returns-2 : tie.Need-returns-2
+returns-2 : tie.Need-returns-then-src-gt-LIMIT
 unfolding decode_entry_in
-returns-2 c = simp (eq-eqb _ _ c.before.if1.false, lt-leb _ _ c.if2.true)
+returns-2 c = simp (eq-eqb _ _ c.if-report-ne-REPORT.false, lt-leb _ _ c.if-src-gt-LIMIT.true)
 
-returns-3 : tie.Need-returns-3
+returns-3 : tie.Need-returns-then-codes-gt-LIMIT
 unfolding decode_entry_in
-returns-3 c = simp (eq-eqb _ _ c.before.before.if1.false, le-leb _ _ c.before.if2.false, lt-leb _ _ c.if3.true)
+returns-3 c = simp (eq-eqb _ _ c.if-report-ne-REPORT.false, le-leb _ _ c.if-src-gt-LIMIT.false, lt-leb _ _ c.if-codes-gt-LIMIT.true)
 
-module _ (c : tie.After-decode-packed) where
+module _ (c : tie.After-decode_packed-r) where
   abbrev start : tie.Start
   start = c.before.before.before.before.before.before.before.before
 
@@ -42,35 +42,35 @@ module _ (c : tie.After-decode-packed) where
 
   gives : given R.number R.consumed (length R.codes) R.subpart (laid R.codes) start.args.codes.now start.args.report.now
       ≡ decode_entry_in start.args.coding start.args.src.now start.args.codes.now start.args.flags start.args.report.now
-  gives = decode-given start.args.coding start.args.src.now start.args.codes.now start.args.report.now start.args.flags c.before.before.before.before.if1.false c.before.before.before.if2.false c.before.before.if3.false
+  gives = decode-given start.args.coding start.args.src.now start.args.codes.now start.args.report.now start.args.flags c.before.before.before.before.if-report-ne-REPORT.false c.before.before.before.if-src-gt-LIMIT.false c.before.before.if-codes-gt-LIMIT.false
 
-  number : R.number ≡ c.decode-packed.result.number
+  number : R.number ≡ c.decode_packed-r.result.number
   unfolding decoded_of
-  number = sym (ap (λ (x : Decoded). x.number) c.decode-packed.ensures.0)
+  number = sym (ap (λ (x : Decoded). x.number) c.decode_packed-r.ensures.0)
 
   none : R.number ≡ 4 → laid R.codes ≡ []
   unfolding stopped
   none e = ap (λ (X : Reading). laid X.codes) (refused_nothing _ _ _ _ ((refused-exactly _ _ _ _).0 e))
 
-  few : c.decode-packed.result.produced ≤ 1048576
+  few : c.decode_packed-r.result.produced ≤ 1048576
   unfolding decoded_of
-  few = rw c.decode-packed.ensures.0 (omega (arith, (within start.args.coding start.args.flags (length start.args.codes.now / 4) start.args.src.now).1, c.before.before.if3.false))
+  few = rw c.decode_packed-r.ensures.0 (omega (arith, (within start.args.coding start.args.flags (length start.args.codes.now / 4) start.args.src.now).1, c.before.before.if-codes-gt-LIMIT.false))
 
-  short : c.decode-packed.result.subpart < 256
+  short : c.decode_packed-r.result.subpart < 256
   unfolding decoded_of
-  short = rw c.decode-packed.ensures.0 (omega (arith, subpart-few start.args.coding start.args.flags (length start.args.codes.now / 4) start.args.src.now, longest-few start.args.coding))
+  short = rw c.decode_packed-r.ensures.0 (omega (arith, subpart-few start.args.coding start.args.flags (length start.args.codes.now / 4) start.args.src.now, longest-few start.args.coding))
 
-returns-5 : tie.Need-returns-5
+returns-5 : tie.Need-returns
 unfolding decoded_of
 returns-5 c =
     let t = c.before.before.before in
     let d = t.before.before.before.before.before.before.before in
-    let told = subst (λ (x : Decoded). (c.answer.result ≡ answer_of x.number x.produced) × (t.put-report.new.1.1.0 ≡ low_first 8 x.consumed ++ (x.subpart ∷ []))) d.decode-packed.ensures.0 (c.answer.ensures, t.put-report.ensures) in
-    simp (to_z-of_z w64 c.answer.result (sfits_of c.answer.type-inv))
-    (tells _ _ _ _ _ _ _ _ _ _ (λ e. t.before.before.before.if4.false (sym (number d) ∙ e)) d.decode-packed.ensures.1 told ∙ gives d)
+    let told = subst (λ (x : Decoded). (c.answer.result ≡ answer_of x.number x.produced) × (t.put_report.new.report ≡ low_first 8 x.consumed ++ (x.subpart ∷ []))) d.decode_packed-r.ensures.0 (c.answer.ensures, t.put_report.ensures) in
+    simp (to_z-of_z w64 c.answer.result (sfits_of c.answer.type_inv))
+    (tells _ _ _ _ _ _ _ _ _ _ (λ e. t.if-r-eq4.false (sym (number d) ∙ e)) d.decode_packed-r.ensures.1 told ∙ gives d)
 
-pub decode-entry-spec : {M : Type 1} → statement M
-decode-entry-spec =
+pub decode_entry_spec : {M : Type 1} → statement M
+decode_entry_spec =
     tie.close
     (tie.spec
     returns
@@ -78,7 +78,7 @@ decode-entry-spec =
     returns-3
     (λ c κs. search rules)
     (λ c. search rules)
-    (λ c. let d = c.before.before.before.before in let e = number d ∙ c.if4.true in refuses _ _ _ _ _ _ _ _ e (none d e) d.decode-packed.ensures.1 ∙ gives d)
+    (λ c. let d = c.before.before.before.before in let e = number d ∙ c.if-r-eq4.true in refuses _ _ _ _ _ _ _ _ e (none d e) d.decode_packed-r.ensures.1 ∙ gives d)
     (λ c. omega (arith, short c.before.before.before.before.before))
     (λ c κs. search rules)
     (λ c κs. few c.before.before.before.before.before.before.before.before.before)

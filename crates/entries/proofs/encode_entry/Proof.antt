@@ -19,23 +19,23 @@ use Rattle.entries.proofs.Answers.{refuses, tells, encode-given}
 use Rattle.entries.proofs.encode_entry.Statement.{statement}
 use Rattle.entries.proofs.encode_entry.Tie as tie
 
-returns : tie.Need-returns
+returns : tie.Need-returns-then-report-ne-REPORT
 unfolding encode_entry_in
-returns c = simp (ne_eqb _ _ c.if1.true)
+returns c = simp (ne_eqb _ _ c.if-report-ne-REPORT.true)
 
-returns-2 : tie.Need-returns-2
+returns-2 : tie.Need-returns-then-codes-gt-LIMIT
 unfolding encode_entry_in
-returns-2 c = simp (eq-eqb _ _ c.before.if1.false, lt-leb _ _ c.if2.true)
+returns-2 c = simp (eq-eqb _ _ c.if-report-ne-REPORT.false, lt-leb _ _ c.if-codes-gt-LIMIT.true)
 
-returns-3 : tie.Need-returns-3
+returns-3 : tie.Need-returns-then-dst-gt-LIMIT
 unfolding encode_entry_in
-returns-3 c = simp (eq-eqb _ _ c.before.before.if1.false, le-leb _ _ c.before.if2.false, lt-leb _ _ c.if3.true)
+returns-3 c = simp (eq-eqb _ _ c.if-report-ne-REPORT.false, le-leb _ _ c.if-codes-gt-LIMIT.false, lt-leb _ _ c.if-dst-gt-LIMIT.true)
 
-returns-4 : tie.Need-returns-4
+returns-4 : tie.Need-returns-then-codes-ne0
 unfolding encode_entry_in
-returns-4 c = simp (eq-eqb _ _ c.before.before.before.if1.false, le-leb _ _ c.before.before.if2.false, le-leb _ _ c.before.if3.false, ne_eqb _ _ c.if4.true)
+returns-4 c = simp (eq-eqb _ _ c.if-report-ne-REPORT.false, le-leb _ _ c.if-codes-gt-LIMIT.false, le-leb _ _ c.if-dst-gt-LIMIT.false, ne_eqb _ _ c.if-codes-ne0.true)
 
-module _ (c : tie.After-encode-packed) where
+module _ (c : tie.After-encode_packed-r) where
   abbrev start : tie.Start
   start = c.before.before.before.before.before.before.before.before.before
 
@@ -44,27 +44,27 @@ module _ (c : tie.After-encode-packed) where
 
   gives : given W.number W.consumed (length W.written) 0 W.written start.args.dst.now start.args.report.now
       ≡ encode_entry_in start.args.coding start.args.codes.now start.args.dst.now start.args.flags start.args.report.now
-  gives = encode-given start.args.coding start.args.codes.now start.args.dst.now start.args.report.now start.args.flags c.before.before.before.before.before.if1.false c.before.before.before.before.if2.false c.before.before.before.if3.false c.before.before.if4.false
+  gives = encode-given start.args.coding start.args.codes.now start.args.dst.now start.args.report.now start.args.flags c.before.before.before.before.before.if-report-ne-REPORT.false c.before.before.before.before.if-codes-gt-LIMIT.false c.before.before.before.if-dst-gt-LIMIT.false c.before.before.if-codes-ne0.false
 
-  number : W.number ≡ c.encode-packed.result.number
+  number : W.number ≡ c.encode_packed-r.result.number
   unfolding encoded_of
-  number = sym (ap (λ (x : Encoded). x.number) c.encode-packed.ensures.0)
+  number = sym (ap (λ (x : Encoded). x.number) c.encode_packed-r.ensures.0)
 
-  few : c.encode-packed.result.produced ≤ 1048576
+  few : c.encode_packed-r.result.produced ≤ 1048576
   unfolding encoded_of
-  few = rw c.encode-packed.ensures.0 (omega (arith, (within start.args.coding start.args.flags (length start.args.dst.now) (codes_of start.args.codes.now)).0, c.before.before.before.if3.false))
+  few = rw c.encode_packed-r.ensures.0 (omega (arith, (within start.args.coding start.args.flags (length start.args.dst.now) (codes_of start.args.codes.now)).0, c.before.before.before.if-dst-gt-LIMIT.false))
 
-returns-6 : tie.Need-returns-6
+returns-6 : tie.Need-returns
 unfolding encoded_of
 returns-6 c =
     let t = c.before.before.before in
     let d = t.before.before.before.before.before.before in
-    let told = subst (λ (x : Encoded). (c.answer.result ≡ answer_of x.number x.produced) × (t.put-report.new.1.1.0 ≡ low_first 8 x.consumed ++ (0 ∷ []))) d.encode-packed.ensures.0 (c.answer.ensures, t.put-report.ensures) in
-    simp (to_z-of_z w64 c.answer.result (sfits_of c.answer.type-inv))
-    (tells _ _ _ _ _ _ _ _ _ _ (λ e. t.before.before.if5.false (sym (number d) ∙ e)) d.encode-packed.ensures.1 told ∙ gives d)
+    let told = subst (λ (x : Encoded). (c.answer.result ≡ answer_of x.number x.produced) × (t.put_report.new.report ≡ low_first 8 x.consumed ++ (0 ∷ []))) d.encode_packed-r.ensures.0 (c.answer.ensures, t.put_report.ensures) in
+    simp (to_z-of_z w64 c.answer.result (sfits_of c.answer.type_inv))
+    (tells _ _ _ _ _ _ _ _ _ _ (λ e. t.if-r-eq4.false (sym (number d) ∙ e)) d.encode_packed-r.ensures.1 told ∙ gives d)
 
-pub encode-entry-spec : {M : Type 1} → statement M
-encode-entry-spec =
+pub encode_entry_spec : {M : Type 1} → statement M
+encode_entry_spec =
     tie.close
     (tie.spec
     returns
@@ -73,7 +73,7 @@ encode-entry-spec =
     returns-4
     (λ c κs. search rules)
     (λ c. search rules)
-    (λ c. let d = c.before.before.before.before in let e = number d ∙ c.if5.true in refuses _ _ _ _ _ _ _ _ e (refused_nothing _ _ _ _ e).1 d.encode-packed.ensures.1 ∙ gives d)
+    (λ c. let d = c.before.before.before.before in let e = number d ∙ c.if-r-eq4.true in refuses _ _ _ _ _ _ _ _ e (refused_nothing _ _ _ _ e).1 d.encode_packed-r.ensures.1 ∙ gives d)
     (λ c κs. search rules)
     (λ c κs. few c.before.before.before.before.before.before.before.before)
     (λ c. search rules)

@@ -7,5 +7,5 @@ use Rattle.entries.proofs.put_report.Tie as tie
 returns : tie.Need-returns
 returns c = let p = c.before.before in let s = p.before.before.before in reported _ _ s.args.report.now _ s.requires p.put.ensures
 
-pub put-report-spec : {M : Type 1} → statement M
-put-report-spec = tie.close (tie.spec (λ c κs. search rules) (λ c. search rules) (λ c. search rules) returns)
+pub put_report_spec : {M : Type 1} → statement M
+put_report_spec = tie.close (tie.spec (λ c κs. search rules) (λ c. search rules) (λ c. search rules) returns)

@@ -18,8 +18,8 @@ returns c =
     let e : take 1 (codes_of s.args.codes.now) ≡ d.code.result ∷ [] = first_code s.args.codes.now s.requires ∙ ap (λ (x : ℕ). x ∷ []) (sym d.code.ensures) in
     rw e (over-written _ _ _ _ w.write_as.ensures)
 
-pub write-one-spec : {M : Type 1} → statement M
-write-one-spec =
+pub write_one_spec : {M : Type 1} → statement M
+write_one_spec =
     tie.close
     (tie.spec
     (λ c. search rules)

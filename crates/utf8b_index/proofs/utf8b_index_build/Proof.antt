@@ -4,13 +4,13 @@ use Rattle.utf8b_index.proofs.Answers.{filled_all, filled_none}
 use Rattle.utf8b_index.proofs.utf8b_index_build.Statement.{statement}
 use Rattle.utf8b_index.proofs.utf8b_index_build.Tie as tie
 
-pub utf8b-index-build-spec : {M : Type 1} → statement M
-utf8b-index-build-spec =
+pub utf8b_index_build_spec : {M : Type 1} → statement M
+utf8b_index_build_spec =
     tie.close
     (tie.spec
     (λ c κs. search rules)
     (λ c. search rules)
-    (λ c. let d = c.before.before.before.before in filled_all _ _ _ _ d.before.before.before.before.args.records.now d.build.ensures c.if1.true)
+    (λ c. let d = c.before.before.before.before in filled_all _ _ _ _ d.args.records.now d.build-b.ensures c.if-b-eq0.true)
     (λ c κs. search rules)
     (λ c. search rules)
-    (λ c. let d = c.before.before.before.before.before in filled_none _ _ _ _ _ d.before.before.before.before.args.records.now d.build.ensures c.before.if1.false c.wide.ensures))
+    (λ c. let d = c.before.before.before.before.before in filled_none _ _ _ _ _ d.args.records.now d.build-b.ensures c.if-b-eq0.false c.wide.ensures))

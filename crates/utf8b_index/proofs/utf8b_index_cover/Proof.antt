@@ -7,21 +7,21 @@ use Rattle.utf8b_index.proofs.Answers.{covered-some, covered_none}
 use Rattle.utf8b_index.proofs.utf8b_index_cover.Statement.{statement}
 use Rattle.utf8b_index.proofs.utf8b_index_cover.Tie as tie
 
-module _ (c : tie.After-cover) where
+module _ (c : tie.After-cover-c) where
   abbrev start : tie.Start
   start = c.before.before
 
   abbrev X : Cover
   X = covering 0 (items plain 0 start.args.log.now) start.args.p
 
-pub utf8b-index-cover-spec : {M : Type 1} → statement M
-utf8b-index-cover-spec =
+pub utf8b_index_cover_spec : {M : Type 1} → statement M
+utf8b_index_cover_spec =
     tie.close
     (tie.spec
     (λ c κs. search rules)
-    (λ c. let d = c.before.before in let a = (start d).args in covered-some _ (X d) a.start.now a.len.now a.code.now d.cover.ensures c.if1.true)
+    (λ c. let d = c.before.before in let a = (start d).args in covered-some _ (X d) a.start.now a.len.now a.code.now d.cover-c.ensures c.if-c-eq0.true)
     (λ c κs. search rules)
     (λ c.
     let d = c.before.before.before in
     let a = (start d).args in
-    covered_none _ (X d) _ a.start.now a.len.now a.code.now d.cover.ensures c.before.if1.false c.wide.ensures))
+    covered_none _ (X d) _ a.start.now a.len.now a.code.now d.cover-c.ensures c.if-c-eq0.false c.wide.ensures))

@@ -9,5 +9,5 @@ returns : tie.Need-returns
 unfolding step_of moved_of
 returns c = rw c.answered.ensures (search rules)
 
-pub step16-cesu8-spec : {M : Type 1} → statement M
-step16-cesu8-spec = tie.close (tie.spec (λ c κs. search rules) (λ c κs. search rules) returns)
+pub step16_cesu8_spec : {M : Type 1} → statement M
+step16_cesu8_spec = tie.close (tie.spec (λ c κs. search rules) (λ c κs. search rules) returns)
