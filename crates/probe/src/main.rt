@@ -1,16 +1,18 @@
 // Tries one call a line: a command on standard input, its answer on standard output. `probe --help` lists the commands.
 #![tactic(auto)]
 
-ghost use Rattle.std.specs.Prelude.{◌≡◌, ◌≤◌, length};
-ghost use Rattle.io.specs.Counts.{IsPrefixLen};
+ghost use Rattle.std.specs.Prelude.{◌≡◌, ◌≢◌, ℕ, ◌<◌, ◌≤◌, length, slice_index};
+ghost use Rattle.probe.specs.Counts.{IsPrefixLen};
 
 use advance::Answer;
 use back::Back;
 use codings::Coding;
 use decode::Decoded;
 use encode::Encoded;
-use libc::{STDERR_FILENO, STDIN_FILENO, STDOUT_FILENO};
 use state::Record;
+use std::env::{Env, FillError};
+use std::io;
+use std::io::{Cursor, Read, Write};
 use steps::{State, Stepped};
 
 // In place of a line's length: an answer could not be written, and nothing more is read.
@@ -40,6 +42,12 @@ fn byte_buffer() -> [u8; 65536]
     [0xEE; 65536]
 }
 
+fn large_buffer() -> [u8; 65536]
+    ensures { 65536 ≡ length result }
+{
+    [0; 65536]
+}
+
 // The number, or the length of the slice if that is less.
 fn within_bytes(n: usize, s: &[u8]) -> usize
     ensures { IsPrefixLen result s.now }
@@ -55,11 +63,26 @@ fn within_codes(n: usize, s: &[u32]) -> usize
 
 // ---- the words of a line, and what they say
 
+// Where the byte stands first, from a place on, or the end.
+fn find(s: &[u8], from: usize, b: u8) -> usize
+    requires { from ≤ length s.now }
+    ensures within { (from ≤ result) × (result ≤ length s.now) }
+    ensures before { (k : ℕ) → from ≤ k → k < result → slice_index s.now k ≢ b }
+    ensures found { result < length s.now → slice_index s.now result ≡ b }
+{
+    for i in from..s.len() {
+        if s[i] == b {
+            return i;
+        }
+    }
+    s.len()
+}
+
 // Where the word of number k begins, from 0, where the byte b stands between two words.
 fn start_of(s: &[u8], b: u8, k: usize) -> usize {
     let mut from: usize = 0;
     for _i in 0..k {
-        let end = bytes::scan::find(s, from, s.len(), b);
+        let end = find(s, from, b);
         if end == s.len() {
             return MISS;
         }
@@ -71,7 +94,7 @@ fn start_of(s: &[u8], b: u8, k: usize) -> usize {
 fn word(s: &[u8], b: u8, k: usize) -> &[u8] {
     let from = start_of(s, b, k);
     if from <= s.len() {
-        let end = bytes::scan::find(s, from, s.len(), b);
+        let end = find(s, from, b);
         return &s[from..end];
     }
     s
@@ -80,7 +103,7 @@ fn word(s: &[u8], b: u8, k: usize) -> &[u8] {
 // The number of a word in a list, or the length of the list.
 fn number_in(list: &[u8], name: &[u8]) -> usize {
     for k in 0..list.len() {
-        if check::same(word(list, b' ', k), name) {
+        if word(list, b' ', k) == name {
             return k;
         }
     }
@@ -148,7 +171,7 @@ fn is_bytes(s: &[u8]) -> bool {
         return false;
     }
     if s.len() % 2 == 1 {
-        return check::same(s, b"-");
+        return s == b"-".as_slice();
     }
     all_digits(s)
 }
@@ -156,7 +179,7 @@ fn is_bytes(s: &[u8]) -> bool {
 fn is_codes(s: &[u8]) -> bool {
     let mut from: usize = 0;
     while from <= s.len() {
-        let end = bytes::scan::find(s, from, s.len(), b',');
+        let end = find(s, from, b',');
         if !number_of(&s[from..end], 16, 8, 0xFFFFFFFF).good {
             return false;
         }
@@ -191,7 +214,7 @@ fn codes_of(s: &[u8], out: &mut [u32]) -> usize
     let mut from: usize = 0;
     let mut n: usize = 0;
     while n < out.len() {
-        let end = bytes::scan::find(s, from, s.len(), b',');
+        let end = find(s, from, b',');
         let code = number_of(&s[from..end], 16, 8, 0xFFFFFFFF);
         if !code.good {
             return n;
@@ -230,20 +253,45 @@ fn room_of(s: &[u8]) -> usize {
 
 // ---- answers, written as they are made
 
-// A write that failed is told on standard error.
-fn passed(written: bool) -> bool {
-    if !written {
-        os::fail(b"probe: standard output");
+// Nothing is told of a message that could not be written.
+fn complain(rt: &HostRuntime, words: &[u8]) {
+    let _ = Print::write_all(&rt.stderr(), words);
+}
+
+// The error says why, in the system's words: what std writes behind them, ` (os error 2)`, is left out.
+fn fail(rt: &HostRuntime, what: &[u8], error: io::Error) {
+    let mut words = Cursor::new([0u8; 256]);
+    let _ = write!(words, "{error}");
+    let k = within_bytes(words.position() as usize, words.get_ref());
+    let text = &words.get_ref()[..k];
+    let end = find(text, 0, b'(');
+    complain(rt, what);
+    complain(rt, b": ");
+    if 0 < end && end < k {
+        complain(rt, &text[..end - 1]);
+    } else {
+        complain(rt, text);
     }
-    written
+    complain(rt, b"\n");
 }
 
-fn say(s: &[u8]) {
-    passed(io::write_all(STDOUT_FILENO, s));
+// A write that failed is told on standard error.
+fn passed(rt: &HostRuntime, written: io::Result<()>) -> bool {
+    match written {
+        Ok(()) => true,
+        Err(e) => {
+            fail(rt, b"probe: standard output", e);
+            false
+        }
+    }
 }
 
-fn put_decimal(value: usize) {
-    passed(io::print_decimal(STDOUT_FILENO, value as u64));
+fn say(rt: &HostRuntime, s: &[u8]) {
+    passed(rt, rt.write_all(s));
+}
+
+fn put_decimal(rt: &HostRuntime, value: usize) {
+    passed(rt, rt.print(value));
 }
 
 fn hex_digit(n: u8) -> u8 {
@@ -282,7 +330,7 @@ fn first_digit(value: u32) -> usize
     }
 }
 
-fn put_hex(value: u32) {
+fn put_hex(rt: &HostRuntime, value: u32) {
     let bytes = [
         (value / 0x1000000) as u8,
         (value / 0x10000 % 256) as u8,
@@ -291,66 +339,66 @@ fn put_hex(value: u32) {
     ];
     let digits = pairs(&bytes);
     let from = first_digit(value);
-    say(&digits[from..8]);
+    say(rt, &digits[from..8]);
 }
 
 // After a comma if it is not the first.
-fn put_code(i: usize, code: u32) {
+fn put_code(rt: &HostRuntime, i: usize, code: u32) {
     if 0 < i {
-        say(b",");
+        say(rt, b",");
     }
-    put_hex(code);
+    put_hex(rt, code);
 }
 
 // All of the codes, or `-`.
-fn put_codes(s: &[u32]) {
+fn put_codes(rt: &HostRuntime, s: &[u32]) {
     if s.len() == 0 {
-        say(b"-");
+        say(rt, b"-");
     }
     for i in 0..s.len() {
-        put_code(i, s[i]);
+        put_code(rt, i, s[i]);
     }
 }
 
 // Up to 32 bytes from a place on.
-fn put_some(s: &[u8], from: usize) {
+fn put_some(rt: &HostRuntime, s: &[u8], from: usize) {
     let a = within_bytes(from, s);
     let digits = pairs(&s[a..]);
     let k = within_bytes((s.len() - a) * 2, &digits);
-    say(&digits[..k]);
+    say(rt, &digits[..k]);
 }
 
 // All of the bytes, or `-`.
-fn put_bytes(s: &[u8]) {
+fn put_bytes(rt: &HostRuntime, s: &[u8]) {
     if s.len() == 0 {
-        say(b"-");
+        say(rt, b"-");
     }
     let parts = s.len() / 32 + 1;
     for k in 0..parts {
-        put_some(s, k * 32);
+        put_some(rt, s, k * 32);
     }
 }
 
-fn put_state(state: State) {
+fn put_state(rt: &HostRuntime, state: State) {
     let raw = state.raw;
     let bytes = raw.bytes;
     let head = [raw.kind, raw.count];
-    put_bytes(&head);
-    put_bytes(&bytes);
+    put_bytes(rt, &head);
+    put_bytes(rt, &bytes);
 }
 
-fn put_counts(a: usize, b: usize) {
-    put_decimal(a);
-    say(b" ");
-    put_decimal(b);
-    say(b" ");
+fn put_counts(rt: &HostRuntime, a: usize, b: usize) {
+    put_decimal(rt, a);
+    say(rt, b" ");
+    put_decimal(rt, b);
+    say(rt, b" ");
 }
 
 // ---- commands: the reader, its companion and the writer
 
 // Whether a place after the first k was changed, in the room or in some places beyond it.
 fn codes_beyond(codes: &[u32], k: usize, room: usize) -> bool {
-    let n = within_codes(std::num::wrapping_add_usize(room, 16), codes);
+    let n = within_codes(room.wrapping_add(16), codes);
     for i in k..n {
         if codes[i] != FILLED {
             return true;
@@ -360,7 +408,7 @@ fn codes_beyond(codes: &[u32], k: usize, room: usize) -> bool {
 }
 
 fn bytes_beyond(bytes: &[u8], k: usize, room: usize) -> bool {
-    let n = within_bytes(std::num::wrapping_add_usize(room, 16), bytes);
+    let n = within_bytes(room.wrapping_add(16), bytes);
     for i in k..n {
         if bytes[i] != 0xEE {
             return true;
@@ -370,22 +418,22 @@ fn bytes_beyond(bytes: &[u8], k: usize, room: usize) -> bool {
 }
 
 // The length of a maximal subpart, after a space; - for none.
-fn put_length(n: usize) {
-    say(b" ");
+fn put_length(rt: &HostRuntime, n: usize) {
+    say(rt, b" ");
     if n == 0 {
-        say(b"-");
+        say(rt, b"-");
         return;
     }
-    put_decimal(n);
+    put_decimal(rt, n);
 }
 
 // What the reader gave.
-fn put_read(produced: usize, codes: &[u32], room: usize, subpart: usize) {
+fn put_read(rt: &HostRuntime, produced: usize, codes: &[u32], room: usize, subpart: usize) {
     let k = within_codes(produced, codes);
-    put_codes(&codes[..k]);
-    put_length(subpart);
+    put_codes(rt, &codes[..k]);
+    put_length(rt, subpart);
     if codes_beyond(codes, k, room) {
-        say(b" beyond");
+        say(rt, b" beyond");
     }
 }
 
@@ -397,13 +445,13 @@ fn read_in(coding: Coding, codes: &mut [u32], room: usize, bytes: &[u8], flags: 
     }
 }
 
-fn read(coding: Coding, s: &[u8]) {
+fn read(rt: &HostRuntime, coding: Coding, s: &[u8]) {
     let mut bytes = byte_buffer();
     let mut codes = code_buffer();
     let m = bytes_of(word(s, b' ', 3), &mut bytes);
     let r = read_in(coding, &mut codes, room_of(s), &bytes[..m], flags_of(s));
-    put_counts(r.number as usize, r.consumed);
-    put_read(r.produced, &codes, room_of(s), r.subpart);
+    put_counts(rt, r.number as usize, r.consumed);
+    put_read(rt, r.produced, &codes, room_of(s), r.subpart);
 }
 
 fn rest_in<'a>(
@@ -419,7 +467,7 @@ fn rest_in<'a>(
     rest::decode_rest(bytes, &mut codes[..n], flags, number, produced, subpart)
 }
 
-fn rest(s: &[u8]) {
+fn rest(rt: &HostRuntime, s: &[u8]) {
     let mut bytes = byte_buffer();
     let mut codes = code_buffer();
     let mut number: u8 = 0xEE;
@@ -435,19 +483,19 @@ fn rest(s: &[u8]) {
         &mut produced,
         &mut subpart,
     );
-    put_decimal(number as usize);
-    say(b" ");
-    put_read(produced, &codes, room_of(s), subpart);
-    say(b" ");
-    put_bytes(left);
+    put_decimal(rt, number as usize);
+    say(rt, b" ");
+    put_read(rt, produced, &codes, room_of(s), subpart);
+    say(rt, b" ");
+    put_bytes(rt, left);
 }
 
 // What the writer gave.
-fn put_written(produced: usize, bytes: &[u8], room: usize) {
+fn put_written(rt: &HostRuntime, produced: usize, bytes: &[u8], room: usize) {
     let k = within_bytes(produced, bytes);
-    put_bytes(&bytes[..k]);
+    put_bytes(rt, &bytes[..k]);
     if bytes_beyond(bytes, k, room) {
-        say(b" beyond");
+        say(rt, b" beyond");
     }
 }
 
@@ -459,13 +507,13 @@ fn write_in(coding: Coding, bytes: &mut [u8], room: usize, codes: &[u32], flags:
     }
 }
 
-fn write(coding: Coding, s: &[u8]) {
+fn write(rt: &HostRuntime, coding: Coding, s: &[u8]) {
     let mut codes = code_buffer();
     let mut bytes = byte_buffer();
     let m = codes_of(word(s, b' ', 3), &mut codes);
     let r = write_in(coding, &mut bytes, room_of(s), &codes[..m], flags_of(s));
-    put_counts(r.number as usize, r.consumed);
-    put_written(r.produced, &bytes, room_of(s));
+    put_counts(rt, r.number as usize, r.consumed);
+    put_written(rt, r.produced, &bytes, room_of(s));
 }
 
 // ---- the steps
@@ -525,41 +573,41 @@ fn told_of(answer: Answer, len: usize) -> Told {
 }
 
 // A name and its number.
-fn put_name(name: usize) {
+fn put_name(rt: &HostRuntime, name: usize) {
     let names =
         b"refused 5 \ncontinuation 0 \nincomplete 2 \nbad 3 \nnull 0 \nunit 0 \nheld 0 \nbytes 0 ";
-    say(word(names, b'\n', name));
+    say(rt, word(names, b'\n', name));
 }
 
 // A count, and what was held, or `-`.
-fn put_held(count: usize, held: usize) {
-    say(b" ");
-    put_decimal(count);
+fn put_held(rt: &HostRuntime, count: usize, held: usize) {
+    say(rt, b" ");
+    put_decimal(rt, count);
     if held == MISS {
-        say(b" -");
+        say(rt, b" -");
         return;
     }
-    say(b" ");
-    put_decimal(held);
+    say(rt, b" ");
+    put_decimal(rt, held);
 }
 
-fn step(width: usize, s: &[u8]) {
+fn step(rt: &HostRuntime, width: usize, s: &[u8]) {
     let mut bytes = byte_buffer();
     let m = bytes_of(word(s, b' ', 2), &mut bytes);
     let r = stepped(width, state_of(word(s, b' ', 1)), &bytes[..m]);
     let answer = r.answer;
     let next = r.next;
     let t = told_of(answer, m);
-    put_name(t.name);
+    put_name(rt, t.name);
     if t.given {
-        put_hex(t.unit);
+        put_hex(rt, t.unit);
     } else {
-        say(b"-");
+        say(rt, b"-");
     }
-    put_held(t.consumed, t.held);
-    put_length(t.subpart);
-    say(b" ");
-    put_state(next);
+    put_held(rt, t.consumed, t.held);
+    put_length(rt, t.subpart);
+    say(rt, b" ");
+    put_state(rt, next);
 }
 
 // The name of a step back's answer, and what was held, or MISS.
@@ -572,35 +620,35 @@ fn told_back(answer: Back) -> Told {
     }
 }
 
-fn put_four(bytes: [u8; 4]) {
-    put_bytes(&bytes);
+fn put_four(rt: &HostRuntime, bytes: [u8; 4]) {
+    put_bytes(rt, &bytes);
 }
 
-fn back(s: &[u8]) {
+fn back(rt: &HostRuntime, s: &[u8]) {
     let unit = number_of(word(s, b' ', 2), 16, 4, 0xFFFF);
     let r = state_of(word(s, b' ', 1)).step_back(unit.value as u16);
     let answer = r.answer;
     let bytes = r.bytes;
     let next = r.next;
     let t = told_back(answer);
-    put_name(t.name);
-    put_four(bytes);
-    put_held(r.count, t.held);
-    say(b" ");
-    put_state(next);
+    put_name(rt, t.name);
+    put_four(rt, bytes);
+    put_held(rt, r.count, t.held);
+    say(rt, b" ");
+    put_state(rt, next);
 }
 
-fn reset(s: &[u8]) {
+fn reset(rt: &HostRuntime, s: &[u8]) {
     let r = state_of(word(s, b' ', 1)).reset();
     let next = r.next;
-    put_decimal(r.number as usize);
-    say(b" ");
-    put_state(next);
+    put_decimal(rt, r.number as usize);
+    say(rt, b" ");
+    put_state(rt, next);
 }
 
-fn start(s: &[u8]) {
+fn start(rt: &HostRuntime, s: &[u8]) {
     let yes = state_of(word(s, b' ', 1)).is_starting();
-    say(word(b"no yes", b' ', yes as usize));
+    say(rt, word(b"no yes", b' ', yes as usize));
 }
 
 // ---- lines
@@ -621,11 +669,11 @@ const FINE: usize = 11;
 const REMARK: usize = 12;
 
 // The reasons stand in the order of their numbers.
-fn put_error(why: usize) {
+fn put_error(rt: &HostRuntime, why: usize) {
     let reasons =
         b"the line is empty\nunknown command\ntoo few words\ntoo many words\nFLAGS is not a decimal number up to 4294967295\nROOM is not a decimal number up to 65536\nBYTES is not pairs of hexadecimal digits, or -\nCODES is not hexadecimal numbers of 1 to 8 digits with commas between them, or -\nRECORD is not 32 hexadecimal digits\nUNIT is not a hexadecimal number of 1 to 4 digits\nthe line is longer than 65536 bytes";
-    say(b"error: ");
-    say(word(reasons, b'\n', why));
+    say(rt, b"error: ");
+    say(rt, word(reasons, b'\n', why));
 }
 
 // Whether a word is of a kind, by the number of the reason that refuses it.
@@ -634,7 +682,7 @@ fn fits(kind: u8, s: &[u8]) -> bool {
         4 => number_of(s, 10, LONGEST, 0xFFFFFFFF).good,
         5 => number_of(s, 10, LONGEST, 65536).good,
         6 => is_bytes(s),
-        7 => check::same(s, b"-") || is_codes(s),
+        7 => s == b"-".as_slice() || is_codes(s),
         8 => s.len() == 32 && all_digits(s),
         _ => number_of(s, 16, 4, 0xFFFF).good,
     }
@@ -684,39 +732,39 @@ fn refusal(s: &[u8], len: usize) -> usize {
     word_refusal(word(kinds, b' ', command), s)
 }
 
-fn obey(s: &[u8]) {
+fn obey(rt: &HostRuntime, s: &[u8]) {
     match command_of(s) {
-        0 => read(Coding::Utf8, s),
-        1 => rest(s),
-        2 => write(Coding::Utf8, s),
-        3 => step(0, s),
-        4 => step(1, s),
-        5 => step(2, s),
-        6 => back(s),
-        7 => reset(s),
-        8 => start(s),
-        9 => read(Coding::Cesu8, s),
-        10 => write(Coding::Cesu8, s),
-        _ => step(3, s),
+        0 => read(rt, Coding::Utf8, s),
+        1 => rest(rt, s),
+        2 => write(rt, Coding::Utf8, s),
+        3 => step(rt, 0, s),
+        4 => step(rt, 1, s),
+        5 => step(rt, 2, s),
+        6 => back(rt, s),
+        7 => reset(rt, s),
+        8 => start(rt, s),
+        9 => read(rt, Coding::Cesu8, s),
+        10 => write(rt, Coding::Cesu8, s),
+        _ => step(rt, 3, s),
     }
 }
 
 // Answers a line of so many bytes, of which this part was kept, and tells whether its end could be written. A remark is its own answer.
-fn answer(s: &[u8], len: usize) -> bool {
+fn answer(rt: &HostRuntime, s: &[u8], len: usize) -> bool {
     let why = refusal(s, len);
     match why {
-        REMARK => say(s),
-        FINE => obey(s),
-        _ => put_error(why),
+        REMARK => say(rt, s),
+        FINE => obey(rt, s),
+        _ => put_error(rt, why),
     }
-    passed(io::write_all(STDOUT_FILENO, b"\n"))
+    passed(rt, rt.write_all(b"\n"))
 }
 
 // What a byte of input brings to the line, whose length then this answers; or STOPPED if an answer cannot be written.
-fn keep(len: usize, b: u8, line: &mut [u8]) -> usize {
+fn keep(rt: &HostRuntime, len: usize, b: u8, line: &mut [u8]) -> usize {
     if b == b'\n' {
         let k = within_bytes(len, line);
-        if answer(&line[..k], len) {
+        if answer(rt, &line[..k], len) {
             return 0;
         }
         return STOPPED;
@@ -729,10 +777,10 @@ fn keep(len: usize, b: u8, line: &mut [u8]) -> usize {
 }
 
 // The length of the line that goes on after the chunk, or STOPPED.
-fn feed(chunk: &[u8], len: usize, line: &mut [u8]) -> usize {
+fn feed(rt: &HostRuntime, chunk: &[u8], len: usize, line: &mut [u8]) -> usize {
     let mut held = len;
     for i in 0..chunk.len() {
-        held = keep(held, chunk[i], line);
+        held = keep(rt, held, chunk[i], line);
         if held == STOPPED {
             return STOPPED;
         }
@@ -741,59 +789,73 @@ fn feed(chunk: &[u8], len: usize, line: &mut [u8]) -> usize {
 }
 
 // Reads once, and answers how many of the chunk's bytes came. At the end of the input a line that has no newline gets one.
-fn next_chunk(len: usize, chunk: &mut [u8]) -> usize
+fn next_chunk(rt: &HostRuntime, len: usize, chunk: &mut [u8]) -> usize
     ensures { IsPrefixLen result chunk.new }
 {
-    let got = libc::read(STDIN_FILENO, chunk);
-    if got < 0 {
-        os::fail(b"probe: standard input");
+    match rt.stdin().read(chunk) {
+        Err(e) => {
+            fail(rt, b"probe: standard input", e);
+            0
+        }
+        Ok(got) => {
+            if got == 0 && 0 < len && 0 < chunk.len() {
+                chunk[0] = b'\n';
+                return within_bytes(1, chunk);
+            }
+            got
+        }
     }
-    if got == 0 && 0 < len && 0 < chunk.len() {
-        chunk[0] = b'\n';
-        return within_bytes(1, chunk);
-    }
-    io::count(got, chunk)
 }
 
 // A proved loop has to end, and nothing says that the input does: the turns are counted up to a number that no run reaches.
-fn answer_all(chunk: &mut [u8], line: &mut [u8]) {
+fn answer_all(rt: &HostRuntime, chunk: &mut [u8], line: &mut [u8]) {
     let mut len: usize = 0;
     for _turn in 0..u64::MAX {
-        let m = next_chunk(len, chunk);
-        len = feed(&chunk[..m], len, line);
+        let m = next_chunk(rt, len, chunk);
+        len = feed(rt, &chunk[..m], len, line);
         if m == 0 || len == STOPPED {
             return;
         }
     }
 }
 
-fn help() {
-    io::write_all(
-        STDOUT_FILENO,
+fn help(rt: &HostRuntime) {
+    let _ = rt.write_all(
         b"usage: probe, or probe --help\n\nTries one call a line. A command and what it answers:\n\n    read FLAGS ROOM BYTES    number consumed codes length\n    rest FLAGS ROOM BYTES    number codes length bytes (the reader's companion)\n    write FLAGS ROOM CODES   number consumed bytes\n    step8 RECORD BYTES       answer number unit consumed held length record\n    step16, step32           the same\n    back RECORD UNIT         answer number bytes count held record\n    reset RECORD             number record\n    start RECORD             yes or no\n    cesu8-read, cesu8-write, cesu8-step16    read, write, step16 in CESU-8\n\nFLAGS and ROOM are decimal, ROOM up to 65536. BYTES is hexadecimal pairs, CODES\nhexadecimal numbers with commas, - is none; RECORD is 16 bytes, UNIT one number.\nAfter a bad sequence held is how many bytes had been held, and length that of\nthe maximal subpart; - is none. A line begun by # is its own answer; one that\ncannot be read gets error: and why. An answer ends in beyond where the call\nchanged more than it gave.\n",
     );
 }
 
-fn is_help() -> bool {
+fn is_help(rt: &HostRuntime) -> bool {
     let mut argument = [0u8; 8];
-    let n = os::arg(1, &mut argument);
-    check::same(&argument[..n], b"--help")
+    match rt.arg(1, &mut argument) {
+        Ok(n) => &argument[..n] == b"--help".as_slice(),
+        Err(_) => false,
+    }
 }
 
-fn work() {
-    let mut chunk = io::large_buffer();
-    let mut line = io::large_buffer();
-    answer_all(&mut chunk, &mut line);
+// Whether there is an argument of number i. The program's name has number 0.
+fn is_given(rt: &HostRuntime, i: usize) -> bool {
+    let mut first = [0u8; 1];
+    match rt.arg(i, &mut first) {
+        Err(FillError::NotPresent) => false,
+        _ => true,
+    }
 }
 
-fn main() {
-    if os::arg_count() < 2 {
-        work();
+fn work(rt: &HostRuntime) {
+    let mut chunk = large_buffer();
+    let mut line = large_buffer();
+    answer_all(rt, &mut chunk, &mut line);
+}
+
+fn main(rt: HostRuntime) {
+    if !is_given(&rt, 1) {
+        work(&rt);
         return;
     }
-    if os::arg_count() == 2 && is_help() {
-        help();
+    if !is_given(&rt, 2) && is_help(&rt) {
+        help(&rt);
         return;
     }
-    io::write_all(STDERR_FILENO, b"probe: no argument is taken but --help\n");
+    complain(&rt, b"probe: no argument is taken but --help\n");
 }
