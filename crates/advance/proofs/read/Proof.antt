@@ -14,6 +14,7 @@ use Rattle.forms.specs.Forms.{rows_of}
 use Rattle.forms.proofs.Forms.{form_scans}
 use Rattle.front.proofs.Told.{Finds, told-finds}
 use Rattle.state.specs.declared.Record.{Record}
+use Rattle.state.specs.Meaning.{record_of, starting}
 use Rattle.advance.specs.declared.Window.{Window}
 use Rattle.advance.specs.declared.Advanced.{Advanced}
 use Rattle.advance.specs.declared.Answer.TheVariants.{Incomplete, Bad, Null}
@@ -73,13 +74,6 @@ returns c =
     is_read s _ _ (c.done.ensures ∙ ap (with_next (Done Incomplete)) c.start.ensures)
     (reads_none (form_scans s.args.form) (places s) s.requires (input s) (finds q _ c.in-Partial.is) (sym (count (gathered q)) ∙ c.if-k-eq0.true))
 
-returns-2 : tie.Need-returns-then-c-eq0
-returns-2 c =
-    let q = c.before.before.before.before in
-    let s = start (gathered q) in
-    is_read s _ _ (c.done-then-c-eq0.ensures ∙ ap (with_next (Done Null)) c.start-then-c-eq0.ensures)
-    (reads-null (form_scans s.args.form) (places s) s.requires (input s) _ _ (finds q _ c.in-Well.is) c.if-c-eq0.true)
-
 sub-t29 : tie.Need-overflow_sub-result
 sub-t29 c =
     let q = c.before.before in
@@ -137,7 +131,11 @@ read_spec =
     (λ c. search rules)
     (λ c κs. search rules)
     (λ c κs. search rules)
-    returns-2
+    (λ c.
+    let q = c.before.before.before.before in
+    let s = start (gathered q) in
+    is_read s _ (with_next (Done Null) (record_of starting)) (cc)
+    (reads-null (form_scans s.args.form) (places s) s.requires (input s) _ _ (finds q _ c.in-Well.is) (omega arith)))
     sub-t29
     (λ c κs. search rules)
     returns-3

@@ -85,11 +85,11 @@ read_spec =
     (λ c. at-fits c.before.before.before)
     (λ c. n-fits c.before.before.before.before)
     (λ c. (item (some c.before)).same)
-    (λ c. let r = some c.before in let a = (start (top (leapt r))).args in by-produced (rows_of a.form) a.m a.s.now a.codes.now _ (length a.codes.now) _ ((item r).ends (inl c.if-r-ne1.true)))
+    (λ c. let r = some c.before in let a = (start (top (leapt r))).args in by-produced (rows_of a.form) a.m a.s.now a.codes.now _ (length a.codes.now) _ ((item r).ends (inl (λ e. omega arith))))
     (λ c. (item (some c.before.before)).same)
-    (λ c. let r = some c.before.before in let a = (start (top (leapt r))).args in by-produced (rows_of a.form) a.m a.s.now a.codes.now _ (length a.codes.now) _ ((item r).ends (inr c.if-n-room.true)))
+    (λ c. let r = some c.before.before in let a = (start (top (leapt r))).args in by-produced (rows_of a.form) a.m a.s.now a.codes.now _ (length a.codes.now) _ ((item r).ends (inr (omega arith))))
     (λ c.
     let r = some c.before.before in
     let i = item r in
-    omega (arith, (i.goes_on c.if-r-ne1.false c.if-n-room.false).1, i.few, (leapt r).leap-l.ensures.forth))
-    (λ c. ((item (some c.before.before)).goes_on c.if-r-ne1.false c.if-n-room.false).0))
+    omega (arith, (i.goes_on (omega arith) (λ e. omega arith)).1, i.few, (leapt r).leap-l.ensures.forth))
+    (λ c. ((item (some c.before.before)).goes_on (omega arith) (λ e. omega arith)).0))

@@ -25,10 +25,6 @@ returns : tie.Need-returns-then-report-ne-REPORT
 unfolding decode_entry_in
 returns c = simp (ne_eqb _ _ c.if-report-ne-REPORT.true)
 
-returns-2 : tie.Need-returns-then-src-gt-LIMIT
-unfolding decode_entry_in
-returns-2 c = simp (eq-eqb _ _ c.if-report-ne-REPORT.false, lt-leb _ _ c.if-src-gt-LIMIT.true)
-
 returns-3 : tie.Need-returns-then-codes-gt-LIMIT
 unfolding decode_entry_in
 returns-3 c = simp (eq-eqb _ _ c.if-report-ne-REPORT.false, le-leb _ _ c.if-src-gt-LIMIT.false, lt-leb _ _ c.if-codes-gt-LIMIT.true)
@@ -74,7 +70,7 @@ decode_entry_spec =
     tie.close
     (tie.spec
     returns
-    returns-2
+    (λ c. unfold decode_entry_in in simp (eq-eqb _ _ c.if-report-ne-REPORT.false, lt-leb (length c.args.src.now) 1048576 (omega arith)))
     returns-3
     (λ c κs. search rules)
     (λ c. search rules)

@@ -27,10 +27,6 @@ returns-2 : tie.Need-returns-then-codes-gt-LIMIT
 unfolding encode_entry_in
 returns-2 c = simp (eq-eqb _ _ c.if-report-ne-REPORT.false, lt-leb _ _ c.if-codes-gt-LIMIT.true)
 
-returns-3 : tie.Need-returns-then-dst-gt-LIMIT
-unfolding encode_entry_in
-returns-3 c = simp (eq-eqb _ _ c.if-report-ne-REPORT.false, le-leb _ _ c.if-codes-gt-LIMIT.false, lt-leb _ _ c.if-dst-gt-LIMIT.true)
-
 returns-4 : tie.Need-returns-then-codes-ne0
 unfolding encode_entry_in
 returns-4 c = simp (eq-eqb _ _ c.if-report-ne-REPORT.false, le-leb _ _ c.if-codes-gt-LIMIT.false, le-leb _ _ c.if-dst-gt-LIMIT.false, ne_eqb _ _ c.if-codes-ne0.true)
@@ -69,7 +65,7 @@ encode_entry_spec =
     (tie.spec
     returns
     returns-2
-    returns-3
+    (λ c. unfold encode_entry_in in simp (eq-eqb _ _ c.if-report-ne-REPORT.false, le-leb _ _ c.if-codes-gt-LIMIT.false, lt-leb (length c.args.dst.now) 1048576 (omega arith)))
     returns-4
     (λ c κs. search rules)
     (λ c. search rules)

@@ -18,7 +18,7 @@ span_of_spec =
     (tie.spec
     (λ c. span_none _ c.if-s-eq0.true)
     (λ c. search rules)
-    (λ c. span-ascii _ (omega arith) c.if-s-lt128.true)
+    (λ c. span-ascii _ (omega arith) (omega arith))
     (λ c κs. search rules)
     (λ c. by_straight c.before.before 1 (omega arith))
     (λ c. let u = c.before.before in by_straight u u.straight_of-q.result.len (omega arith)))

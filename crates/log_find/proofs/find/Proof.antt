@@ -13,7 +13,7 @@ pub find_spec : {M : Type 1} → statement M
 find_spec =
     tie.close
     (tie.spec
-    (λ c. found-missing c.args.log.now c.args.index.now c.args.k c.if-index-j.true)
+    (λ c. found-missing c.args.log.now c.args.index.now c.args.k (omega arith))
     (λ c. omega arith)
     (λ c. omega arith)
     (λ c. omega arith)

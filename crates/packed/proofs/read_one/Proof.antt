@@ -21,15 +21,6 @@ given : (c : tie.After-read_as-r)
     → One (rows_of (start c.before.before).args.form) (start c.before.before).args.m (start c.before.before).args.src.now c.lesser-room.result c.read_as-r.result (c.read_as-r.new.codes ++ drop c.lesser-room.result (0 ∷ []))
 given c = let e = c.lesser-room.ensures in one _ _ _ _ _ _ _ (omega (arith, e)) (omega (arith, e)) c.read_as-r.ensures
 
-returns : tie.Need-returns-then-r-eq0
-returns c =
-    let r = c.before.before.before in
-    let a = (start r.before.before).args in
-    let g = given r in
-    let e : reading (rows_of a.form) a.m r.lesser-room.result a.src.now ≡ reading (rows_of a.form) a.m (min (length a.codes.now / 4) 1) a.src.now =
-    ap (λ (k : ℕ). reading (rows_of a.form) a.m k a.src.now) r.lesser-room.ensures in
-    (g.answer ∙ ap decoded_of e, rw (sym (ap (λ (R : Reading). R.codes) e) ∙ g.no_code c.if-r-eq0.true) (filled_none a.codes.now))
-
 returns-2 : tie.Need-returns
 returns-2 c =
     let u = c.before.before in
@@ -48,7 +39,13 @@ read_one_spec =
     (λ c. omega (arith, c.lesser-room.ensures))
     (λ c. sym (length-take-le _ _ (omega (arith, c.lesser-room.ensures))))
     (λ c κs. search rules)
-    returns
+    (λ c.
+    let r = c.before.before.before in
+    let a = (start r.before.before).args in
+    let g = given r in
+    let e : reading (rows_of a.form) a.m r.lesser-room.result a.src.now ≡ reading (rows_of a.form) a.m (min (length a.codes.now / 4) 1) a.src.now =
+    ap (λ (k : ℕ). reading (rows_of a.form) a.m k a.src.now) r.lesser-room.ensures in
+    (g.answer ∙ ap decoded_of e, rw (sym (ap (λ (R : Reading). R.codes) e) ∙ g.no_code (omega arith)) (filled_none a.codes.now)))
     (λ c. omega arith)
     (λ c κs. let r = c.before.before.before.before in omega (arith, (given r).few, r.lesser-room.ensures))
     (λ c. c.put.auto.out)

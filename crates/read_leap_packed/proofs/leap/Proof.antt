@@ -1,4 +1,5 @@
 -- From place to place. Assumes nothing.
+use mathlib.Core.Path.{◌≡◌}
 use mathlib.Core.List.{List}
 use Prim.Native.Nat.{ℕ, ◌+◌, ◌-◌, ◌*◌, ◌≤◌}
 use native.Mathlib.Omega.{arith}
@@ -48,14 +49,12 @@ ran a = let p = run-place a in way-ascii packed (start p).args.m p.careful-care.
 abbrev sequence-place : tie.After-sequence-len invariant-places decreases-places → tie.At-places invariant-places decreases-places
 sequence-place a = a.before.before.before.before.before.before
 
-read : (c : tie.Then-len-ne0 invariant-places decreases-places)
-    → let a = c.before.before.before in
-    let p = sequence-place a in
+read : (a : tie.After-sequence-len invariant-places decreases-places) → (a.sequence-len.result ≡ 0 → ⊥)
+    → let p = sequence-place a in
     On p (back p.places.codes (p.places.n * 4) a.sequence-len.new.codes) (p.places.at + a.sequence-len.result) (p.places.n + 1)
-read c =
-    let a = c.before.before.before in
+read a some =
     let p = sequence-place a in
-    way-sequence packed (start p).args.m p.careful-care.ensures (omega arith) p.places.invariant _ _ a.sequence-len.ensures c.if-len-ne0.true
+    way-sequence packed (start p).args.m p.careful-care.ensures (omega arith) p.places.invariant _ _ a.sequence-len.ensures some
 
 -- none was found
 passed : (c : tie.Else-len-ne0 invariant-places decreases-places)
@@ -117,10 +116,10 @@ leap_spec =
     (λ c. omega (arith, c.places.invariant.room))
     (λ c. omega (arith, c.places.invariant.room))
     (λ c κs. search rules)
-    (λ c. omega (arith, (read c).1))
-    (λ c. let y = (read c).0 in omega (arith, y.room, y.same))
-    (λ c. omega (arith, (read c).1))
-    (λ c. (read c).0)
+    (λ c. omega (arith, (read c.before.before.before (λ e. omega arith)).1))
+    (λ c. let y = (read c.before.before.before (λ e. omega arith)).0 in omega (arith, y.room, y.same))
+    (λ c. omega (arith, (read c.before.before.before (λ e. omega arith)).1))
+    (λ c. (read c.before.before.before (λ e. omega arith)).0)
     (λ c. omega arith)
     (λ c. omega arith)
     (λ c. omega arith)

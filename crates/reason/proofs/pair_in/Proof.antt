@@ -8,9 +8,6 @@ use Rattle.reason.proofs.Signs.{opens_short, opens_pair, opens_other}
 use Rattle.reason.proofs.pair_in.Statement.{statement}
 use Rattle.reason.proofs.pair_in.Tie as tie
 
-returns : tie.Need-returns-then-s-lt2
-returns c = let a = c.args in sym (opens_short (a.first to a.first ∷ a.lo to a.hi ∷ []) a.s.now (omega (arith, c.if-s-lt2.true)))
-
 returns-2 : tie.Need-returns-then-s-first
 returns-2 c =
     let d = c.before.before in
@@ -27,4 +24,4 @@ returns-3 c =
 pub pair_in_spec : {M : Type 1} → statement M
 pair_in_spec =
     tie.close
-    (tie.spec returns (λ c. search rules) returns-2 (λ c. search rules) (λ c κs. search rules) returns-3)
+    (tie.spec (λ c. let a = c.args in sym (opens_short (a.first to a.first ∷ a.lo to a.hi ∷ []) a.s.now (omega arith))) (λ c. search rules) returns-2 (λ c. search rules) (λ c κs. search rules) returns-3)

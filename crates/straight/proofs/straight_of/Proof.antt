@@ -14,12 +14,6 @@ returns c = let a = c.args in c.found.ensures ∙ lost_none a.form a.s.now c.if-
 abbrev from-a : tie.After-shared_slice_known-2-1 → tie.Start
 from-a c = c.before.before.before
 
-returns-2 : tie.Need-returns-then-a-lt128
-returns-2 c =
-    let a = (from-a c.before.before).args in
-    let x = get_or a.s.now 0 0 in
-    c.found-then-a-lt128.ensures ∙ found-one a.form a.s.now x (omega arith) (omega arith) (has_low a.form x (omega arith))
-
 returns-3 : tie.Need-returns-then-a-lt194
 returns-3 c = let a = (from-a c.before.before.before).args in c.found-then-a-lt194.ensures ∙ lost_one a.form a.s.now (omega arith)
 
@@ -41,7 +35,10 @@ straight_of_spec =
     (λ c. search rules)
     (λ c. search rules)
     (λ c κs. search rules)
-    returns-2
+    (λ c.
+    let a = (from-a c.before.before).args in
+    let x = get_or a.s.now 0 0 in
+    cc (found-one a.form a.s.now x (omega arith) (omega arith) (has_low a.form x (omega arith))))
     (λ c κs. search rules)
     returns-3
     (λ c κs. search rules)

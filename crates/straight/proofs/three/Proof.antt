@@ -38,12 +38,6 @@ returns-5 c = let a = (from-c c.before.before.before).args in c.found-then-c-gt1
 returns-6 : tie.Need-returns-then-code-lt2048
 returns-6 c = let a = (from-code c.before.before).args in c.found-then-code-lt2048.ensures ∙ lost_three a.form a.s.now (omega arith) (λ x l h g. omega arith) (λ l h g. omega arith)
 
-returns-7 : tie.Need-returns-then-code-lt55296
-returns-7 c =
-    let a = (from-code c.before.before.before).args in
-    let x = c.code3-code.result in
-    c.found-then-code-lt55296.ensures ∙ found-three a.form a.s.now x (omega arith) (omega arith) (has_low a.form x (omega arith))
-
 returns-8 : tie.Need-returns-then-code-gt57343
 returns-8 c =
     let a = (from-code c.before.before.before.before).args in
@@ -85,7 +79,10 @@ three_spec =
     (λ c κs. search rules)
     returns-6
     (λ c κs. search rules)
-    returns-7
+    (λ c.
+    let a = (from-code c.before.before.before).args in
+    let x = c.code3-code.result in
+    c.found-then-code-lt55296.ensures ∙ found-three a.form a.s.now x (omega arith) (omega arith) (has_low a.form x (omega arith)))
     (λ c κs. search rules)
     returns-8
     (λ c. search rules)

@@ -1,4 +1,5 @@
 -- Assumes nothing.
+use native.Mathlib.Omega.{arith}
 use borrow.Author.Rules.{rules}
 use Rattle.utf8b_index.proofs.Answers.{filled_all, filled_none}
 use Rattle.utf8b_index.proofs.utf8b_index_build.Statement.{statement}
@@ -10,7 +11,7 @@ utf8b_index_build_spec =
     (tie.spec
     (λ c κs. search rules)
     (λ c. search rules)
-    (λ c. let d = c.before.before.before.before in filled_all _ _ _ _ d.args.records.now d.build-b.ensures c.if-b-eq0.true)
+    (λ c. let d = c.before.before.before.before in filled_all _ _ _ _ d.args.records.now d.build-b.ensures (omega arith))
     (λ c κs. search rules)
     (λ c. search rules)
-    (λ c. let d = c.before.before.before.before.before in filled_none _ _ _ _ _ d.args.records.now d.build-b.ensures c.if-b-eq0.false c.wide.ensures))
+    (λ c. let d = c.before.before.before.before.before in filled_none _ _ _ _ _ d.args.records.now d.build-b.ensures (λ e. omega arith) c.wide.ensures))

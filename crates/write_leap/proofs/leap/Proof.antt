@@ -104,14 +104,6 @@ codes-again-2 c =
     leaping-short p.codes.invariant x (some p) refl (form_writer (begin p).args.form) _ 2 (omega (arith, c.if-c-lt2048.true)) (λ u. omega (arith, c.if-c-lt2048.true))
     (ap length (pattern-two x (omega (arith, c.if-c-lt128.false)) (omega (arith, c.if-c-lt2048.true)))) (omega (arith, four p)) c.put2.ensures
 
-codes-again-3 : tie.Need-codes-preserved-then-c-lt55296 invariant-codes decreases-codes
-codes-again-3 c =
-    let d = c.before.before.before.before.before.before.before in
-    let x = code d in
-    let p = d.before in
-    leaping-short p.codes.invariant x (some p) refl (form_writer (begin p).args.form) _ 3 (omega (arith, c.if-c-lt55296.true)) (λ u. omega (arith, c.if-c-lt55296.true))
-    (ap length (pattern-three x (omega (arith, c.if-c-lt2048.false)) (omega (arith, c.if-c-lt55296.true)))) (omega (arith, four p)) c.put3.ensures
-
 codes-again-4 : tie.Need-codes-preserved-then-c-gt65535 invariant-codes decreases-codes
 codes-again-4 c =
     let d = c.before.before.before.before.before.before.before.before.before.before.before in
@@ -198,7 +190,12 @@ leap_spec =
     (λ c. omega (arith, four c.before.before.before.before.before.before.before.before))
     (λ c. omega (arith, some c.before.before.before.before.before.before.before.before))
     (λ c. omega (arith, some c.before.before.before.before.before.before.before.before))
-    codes-again-3
+    (λ c.
+    let d = c.before.before.before.before.before.before.before in
+    let x = code d in
+    let p = d.before in
+    leaping-short p.codes.invariant x (some p) refl (form_writer (begin p).args.form) _ 3 (omega arith) (λ u. omega (arith, c.if-c-lt55296.true))
+    (ap length (pattern-three x (omega (arith, c.if-c-lt2048.false)) (omega arith))) (omega (arith, four p)) c.put3.ensures)
     (λ c κs. tt)
     (λ c κs. (omega arith, omega arith, four c.before.before.before.before.before.before.before.before.before))
     (λ c. omega (arith, four c.before.before.before.before.before.before.before.before.before.before.before.before))

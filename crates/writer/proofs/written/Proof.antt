@@ -10,17 +10,13 @@ use Rattle.sequence.specs.Leaf.{coded_of}
 use Rattle.writings.proofs.Given.{given, given-ascii, given-high, given-surro, given-strict, given-escape, given-other}
 use Rattle.forms.proofs.Forms.{form_writer}
 use Rattle.writer.proofs.written.Statement.{statement}
-use Rattle.writer.proofs.written.Lts.{in_default-via-then-c-lt56448, in_default-via-else-c-lt56448+else-c-lt56576}
+use Rattle.writer.proofs.written.Lts.{by_way16}
 use Rattle.writer.proofs.written.Tie as tie
 
 -- a result that is the bytes of w, where w is given
 is-given : (s : tie.Start) (w : List ℕ) (r : Coded) → r ≡ coded_of w → given (rows_of s.args.form) s.args.m s.args.c ≡ w
     → r ≡ coded_of (given (rows_of s.args.form) s.args.m s.args.c)
 is-given s w r e h = e ∙ ap coded_of (sym h)
-
-returns : tie.Need-returns-then-c-lt128
-unfolding coded_of
-returns c = let s = c.before in let a = s.args in is-given s (a.c ∷ []) _ refl (given-ascii (rows_of a.form) (form_writer a.form) a.m a.c (omega arith))
 
 returns-2 : tie.Need-returns-then-c-gt65535
 returns-2 c =
@@ -48,30 +44,12 @@ returns-4 c =
     let a = (start d).args in
     is-given (start d) _ _ c.bytes_of-then-m-2.ensures (given-strict (rows_of a.form) (form_writer a.form) a.m a.c (few d) c.if-m.false c.if-m-2.true)
 
-returns-5 : tie.Need-returns-in-56448-to-56575
-unfolding coded_of
-returns-5 c =
-    let e = c.before in
-    let d = e.before.before in
-    let a = (start d).args in
-    is-given (start d) ((a.c - 0xDC00) ∷ []) _ refl
-    (given-escape (rows_of a.form) (form_writer a.form) a.m a.c (few d) e.if-m.false e.if-m-2.false (omega arith))
-
-returns-6 : tie.Need-returns-in_default
-returns-6 c =
-    let e = c.before.before in
-    let d = e.before.before in
-    let a = (start d).args in
-    is-given (start d) _ _ c.bytes_of-in_default.ensures
-    (given-other (rows_of a.form) (form_writer a.form) a.m a.c (few d) e.if-m.false e.if-m-2.false
-    (λ h. elim c.in_default.branch [ in_default-via-then-c-lt56448 w ↦ omega arith | in_default-via-else-c-lt56448+else-c-lt56576 w ↦ omega arith ]))
-
 pub written_spec : {M : Type 1} → statement M
 written_spec =
     tie.close
     (tie.spec
     (λ c. search rules)
-    returns
+    (λ c. unfold coded_of in let s = c.before in let a = s.args in is-given s (a.c ∷ []) _ refl (given-ascii (rows_of a.form) (form_writer a.form) a.m a.c (omega arith)))
     (λ c κs. search rules)
     returns-2
     (λ c κs. search rules)
@@ -81,5 +59,17 @@ written_spec =
     (λ c. search rules)
     (λ c. search rules)
     (λ c κs. search rules)
-    returns-5
-    returns-6)
+    (λ c.
+    unfold coded_of in 
+    let e = c.before in
+    let d = e.before.before in
+    let a = (start d).args in
+    is-given (start d) ((a.c - 0xDC00) ∷ []) _ refl
+    (given-escape (rows_of a.form) (form_writer a.form) a.m a.c (few d) e.if-m.false e.if-m-2.false (omega arith)))
+    (λ c.
+    let e = c.before.before in
+    let d = e.before.before in
+    let a = (start d).args in
+    is-given (start d) _ _ c.bytes_of-in_default.ensures
+    (given-other (rows_of a.form) (form_writer a.form) a.m a.c (few d) e.if-m.false e.if-m-2.false
+    (λ h. by_way16 tie.the-claims tie.handed_pre tie.handed_post c.in_default.branch (λ w. omega arith) (λ w. omega arith)))))
