@@ -12,14 +12,14 @@ returns-2 : tie.Need-returns-then-s-first
 returns-2 c =
     let d = c.before.before in
     let a = d.args in
-    sym (opens_other a.first (a.lo to a.hi) a.s.now (omega (arith, d.if-s-lt2.false)) c.if-s-first.true)
+    sym (opens_other a.first (a.lo to a.hi) a.s.now (omega arith) c.if-s-first.true)
 
 returns-3 : tie.Need-returns
 returns-3 c =
     let e = c.before.before in
     let d = e.before.before in
     let a = d.args in
-    c.within.ensures ∙ sym (opens_pair a.first (a.lo to a.hi) a.s.now (omega (arith, d.if-s-lt2.false)) e.if-s-first.false)
+    c.within.ensures ∙ sym (opens_pair a.first (a.lo to a.hi) a.s.now (omega arith) e.if-s-first.false)
 
 pub pair_in_spec : {M : Type 1} → statement M
 pair_in_spec =

@@ -82,7 +82,7 @@ three_spec =
     (λ c.
     let a = (from-code c.before.before.before).args in
     let x = c.code3-code.result in
-    c.found-then-code-lt55296.ensures ∙ found-three a.form a.s.now x (omega arith) (omega arith) (has_low a.form x (omega arith)))
+    cc (found-three a.form a.s.now x (omega arith) (omega arith) (has_low a.form x (omega arith))))
     (λ c κs. search rules)
     returns-8
     (λ c. search rules)

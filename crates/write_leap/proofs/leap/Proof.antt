@@ -194,7 +194,7 @@ leap_spec =
     let d = c.before.before.before.before.before.before.before in
     let x = code d in
     let p = d.before in
-    leaping-short p.codes.invariant x (some p) refl (form_writer (begin p).args.form) _ 3 (omega arith) (λ u. omega (arith, c.if-c-lt55296.true))
+    leaping-short p.codes.invariant x (some p) refl (form_writer (begin p).args.form) _ 3 (omega arith) (λ u. omega arith)
     (ap length (pattern-three x (omega (arith, c.if-c-lt2048.false)) (omega arith))) (omega (arith, four p)) c.put3.ensures)
     (λ c κs. tt)
     (λ c κs. (omega arith, omega arith, four c.before.before.before.before.before.before.before.before.before))
