@@ -105,7 +105,7 @@ places-again c =
     let b = c.before.before.before.before.before in
     let p = place b in
     let e : p.places.at + size b ≡ b.bytes.end = omega (arith, b.bytes.invariant.begins) in
-    let r = reached-next p.places.invariant.0 _ (size b) (whole c.before.before.before) (room-left p c.if-n-codes.false) in
+    let r = reached-next p.places.invariant.0 _ (size b) (whole c.before.before.before) (room-left p (λ e. omega arith)) in
     (rw c.code_of.ensures (rw e at r), p.places.invariant.1)
 
 places-again-2 : tie.Need-places-preserved invariant-bytes decreases-bytes invariant-places decreases-places
