@@ -208,7 +208,7 @@ def exists(path):
 
 def check_paths(document):
     for word in QUOTED.findall(text(document)):
-        if word.startswith("build/") or re.match(r"crates/\w+/out/", word):
+        if word.startswith(("out/", "build/")) or re.match(r"crates/\w+/out/", word):
             continue
         if re.fullmatch(r"[\w.*-]*\w[\w.*-]*/[\w./*-]*|[\w-]+\.(?:md|txt|c|h|py|antt)", word):
             expect(exists(word), f"{shown(document)}: no {word}")
