@@ -1,7 +1,7 @@
 PREFIX ?= /usr/local
 c_flags := -std=c99 -O2 -Wall -Wextra -pedantic
 
-# rt staticlib exports only what the crate it is given marks, so each crate with entries for C is named here.
+# A static library exports only what its own crate marks, so each crate with entries for C is named here.
 entries := utf8b utf8b_cesu8 utf8b_reason utf8b_index
 archive := build/libutf8b.a
 program := build/codes
@@ -37,18 +37,19 @@ archive: $(archive) ## proves and builds build/libutf8b.a
 
 # A build that fails leaves no half of an archive.
 $(archive): $(sources)
-	for entry in $(entries); do rt staticlib $$entry || exit; done
+	for entry in $(entries); do (cd crates/$$entry && rt lib) || exit; done
 	rm -rf build/join && mkdir -p build/join
-	printf '%s\n' 'CREATE build/join/libutf8b.a' $(entries:%='ADDLIB target/staticlib/lib%.a') SAVE END | $(AR) -M
+	printf '%s\n' 'CREATE build/join/libutf8b.a' $(foreach entry,$(entries),'ADDLIB crates/$(entry)/out/lib$(entry).a') SAVE END | $(AR) -M
 	mv build/join/libutf8b.a $@
 
 codes: $(program) ## proves and builds build/codes
 
-# Nor half of the program.
+# Nor half of the program. rt run runs it when it is built, so it is given its lines, and what it writes is compared.
 $(program): $(sources)
-	rt check codes
 	mkdir -p build/join
-	cp target/bin/codes build/join/codes
+	cd crates/codes && rt run <stdin >../../build/join/codes.stdout
+	cmp crates/codes/stdout build/join/codes.stdout
+	cp crates/codes/out/codes build/join/codes
 	mv build/join/codes $@
 
 run: $(archive) ## runs an example

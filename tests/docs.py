@@ -45,10 +45,10 @@ def text(path):
 
 @functools.cache
 def crates():
-    """Each crate and those that it uses, in the order of crates.txt."""
+    """Each crate and those that it uses, in the order of crates.txt. Behind a name may stand what kind of crate it is."""
     lines = (re.sub(r"#.*", "", line) for line in text("crates.txt").splitlines())
     pairs = (line.split(":") for line in lines if line.strip())
-    return {name.strip(): used.split() for name, used in pairs}
+    return {head.split()[0]: used.split() for head, used in pairs}
 
 
 @functools.cache
@@ -200,14 +200,15 @@ def check_prototypes():
 
 @functools.cache
 def exists(path):
-    """A path may begin at the top, in crates/ or in a crate, a bare name in any folder; CRATE stands for any crate."""
+    """A path may begin at the top, in crates/ or in a crate, a bare name in any folder but what rt makes; CRATE stands for any crate."""
     starts = ("", "crates/", "crates/*/") if "/" in path else ("", "*/", "crates/*/*/", "crates/*/*/*/")
-    return any(True for start in starts for _ in TOP.glob(start + path.rstrip("/").replace("CRATE", "*")))
+    found = (file for start in starts for file in TOP.glob(start + path.rstrip("/").replace("CRATE", "*")))
+    return any(file.relative_to(TOP).parts[2:3] != ("out",) for file in found)
 
 
 def check_paths(document):
     for word in QUOTED.findall(text(document)):
-        if word.startswith(("target/", "build/")):
+        if word.startswith(("out/", "build/")) or re.match(r"crates/\w+/out/", word):
             continue
         if re.fullmatch(r"[\w.*-]*\w[\w.*-]*/[\w./*-]*|[\w-]+\.(?:md|txt|c|h|py|antt)", word):
             expect(exists(word), f"{shown(document)}: no {word}")
