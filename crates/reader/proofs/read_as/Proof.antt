@@ -62,9 +62,9 @@ whole : (c : tie.Then-found-eq-WHOLE invariant-bytes decreases-bytes invariant-p
     ≡ convert (bits (take (size c.before.before) (rest c.before.before))) (size c.before.before)
 whole c =
     let b = c.before.before in
-    elim c.if-stage-le-WHOLE.branch
-    [ then-stage-le-WHOLE w ↦ turn_whole b.bytes.invariant (mode (place b)) (sym w.found-is ∙ c.if-found-eq-WHOLE.true)
-    | else-stage-le-WHOLE+then-end-s+then-m w ↦ absurd (omega (arith, w.found-is, c.if-found-eq-WHOLE.true))
+    elim c.if-stage-le-WHOLE.branch [
+      | then-stage-le-WHOLE w ↦ turn_whole b.bytes.invariant (mode (place b)) (sym w.found-is ∙ c.if-found-eq-WHOLE.true)
+      | else-stage-le-WHOLE+then-end-s+then-m w ↦ absurd (omega (arith, w.found-is, c.if-found-eq-WHOLE.true))
     ]
 
 none : (c : tie.Else-found-eq-WHOLE invariant-bytes decreases-bytes invariant-places decreases-places)
@@ -72,9 +72,9 @@ none : (c : tie.Else-found-eq-WHOLE invariant-bytes decreases-bytes invariant-pl
     (cond (eqb c.bytes.stage 0) (max 1 (size c.before.before - 1)) (size c.before.before))
 none c =
     let b = c.before.before in
-    elim c.if-stage-le-WHOLE.branch
-    [ then-stage-le-WHOLE w ↦ none_bad b.bytes.invariant (mode (place b)) (omega (arith, w.if-stage-le-WHOLE.true, w.found-is, c.if-found-eq-WHOLE.false))
-    | else-stage-le-WHOLE+then-end-s+then-m w ↦ none_partial b.bytes.invariant (mode (place b)) w.if-stage-le-WHOLE.false w.if-end-s.true w.if-m.true
+    elim c.if-stage-le-WHOLE.branch [
+      | then-stage-le-WHOLE w ↦ none_bad b.bytes.invariant (mode (place b)) (omega (arith, w.if-stage-le-WHOLE.true, w.found-is, c.if-found-eq-WHOLE.false))
+      | else-stage-le-WHOLE+then-end-s+then-m w ↦ none_partial b.bytes.invariant (mode (place b)) w.if-stage-le-WHOLE.false w.if-end-s.true w.if-m.true
     ]
 
 -- by the length that the code has

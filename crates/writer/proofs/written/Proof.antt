@@ -60,7 +60,7 @@ written_spec =
     (λ c. search rules)
     (λ c κs. search rules)
     (λ c.
-    unfold coded_of in 
+    unfold coded_of in
     let e = c.before in
     let d = e.before.before in
     let a = (start d).args in
