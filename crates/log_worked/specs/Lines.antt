@@ -33,7 +33,7 @@ pub record Lines : Type 0 where
   pub letters_129 : building (letters 129) 24 ≡ gives (0 ∷ 64 ∷ 128 ∷ [])
   pub no_codes : building [] 0 ≡ gives []
   pub no_room : building (letters 129) 23 ≡ refused 1
-  -- places count bytes: the last of 64 codes is '
+  -- places count bytes: the last of 64 codes is ′
   pub prime_at_63 : building (letters 63 ++ (prime ++ letters 1)) 16 ≡ gives (0 ∷ 66 ∷ [])
   pub low_byte_first : (building (letters 300) 40).bytes ≡ laid (0 ∷ 64 ∷ 128 ∷ 192 ∷ []) ++ (0 ∷ 1 ∷ 0 ∷ 0 ∷ 0 ∷ 0 ∷ 0 ∷ 0 ∷ [])
   -- found from one record; past the last code, far past it, and without a record there is none
@@ -42,7 +42,7 @@ pub record Lines : Type 0 where
   pub far_past : finding (letters 130) (0 ∷ 64 ∷ 128 ∷ []) 18446744073709551615 ≡ none
   pub first_of_none : finding [] [] 0 ≡ none
   pub half_record : finding (letters 130) (records (laid (0 ∷ []) ++ (64 ∷ 0 ∷ 0 ∷ 0 ∷ []))) 64 ≡ none
-  -- by another index the walk decides: from inside ', and from the end
+  -- by another index the walk decides: from inside ′, and from the end
   pub inside_prime : finding prime (1 ∷ []) 0 ≡ some 1
   pub at_end : finding prime (3 ∷ []) 0 ≡ none
   pub reached_end : finding prime (1 ∷ []) 2 ≡ none

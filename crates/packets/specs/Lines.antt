@@ -21,7 +21,7 @@ packet s = record { bytes = s; room = 4 }
 abbrev pub three : ℕ → Reading
 three flags = run Utf8 flags [] (packet (0xE1 ∷ []) ∷ packet (0x80 ∷ []) ∷ []) (packet (0xE2 ∷ []))
 
--- 40', cut inside its sign, with an empty packet in between
+-- 40′, cut inside its sign, with an empty packet in between
 abbrev pub forty : Reading
 forty = run Utf8 1 [] (packet (0x34 ∷ 0x30 ∷ 0xE2 ∷ 0x80 ∷ []) ∷ packet [] ∷ []) (packet (0xB2 ∷ []))
 
