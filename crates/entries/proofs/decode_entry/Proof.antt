@@ -38,7 +38,7 @@ module _ (c : tie.After-decode_packed-r) where
 
   gives : given R.number R.consumed (length R.codes) R.subpart (laid R.codes) start.args.codes.now start.args.report.now
       ≡ decode_entry_in start.args.coding start.args.src.now start.args.codes.now start.args.flags start.args.report.now
-  gives = decode-given start.args.coding start.args.src.now start.args.codes.now start.args.report.now start.args.flags c.before.before.before.before.if-report-ne-REPORT.false c.before.before.before.if-src-gt-LIMIT.false c.before.before.if-codes-gt-LIMIT.false
+  gives = decode-given start.args.coding start.args.src.now start.args.codes.now start.args.report.now start.args.flags c.before.before.before.before.if-report-ne-REPORT.false (omega arith) c.before.before.if-codes-gt-LIMIT.false
 
   number : R.number ≡ c.decode_packed-r.result.number
   unfolding decoded_of

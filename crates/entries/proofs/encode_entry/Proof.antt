@@ -40,7 +40,7 @@ module _ (c : tie.After-encode_packed-r) where
 
   gives : given W.number W.consumed (length W.written) 0 W.written start.args.dst.now start.args.report.now
       ≡ encode_entry_in start.args.coding start.args.codes.now start.args.dst.now start.args.flags start.args.report.now
-  gives = encode-given start.args.coding start.args.codes.now start.args.dst.now start.args.report.now start.args.flags c.before.before.before.before.before.if-report-ne-REPORT.false c.before.before.before.before.if-codes-gt-LIMIT.false c.before.before.before.if-dst-gt-LIMIT.false c.before.before.if-codes-ne0.false
+  gives = encode-given start.args.coding start.args.codes.now start.args.dst.now start.args.report.now start.args.flags c.before.before.before.before.before.if-report-ne-REPORT.false c.before.before.before.before.if-codes-gt-LIMIT.false (omega arith) c.before.before.if-codes-ne0.false
 
   number : W.number ≡ c.encode_packed-r.result.number
   unfolding encoded_of
@@ -48,7 +48,7 @@ module _ (c : tie.After-encode_packed-r) where
 
   few : c.encode_packed-r.result.produced ≤ 1048576
   unfolding encoded_of
-  few = rw c.encode_packed-r.ensures.0 (omega (arith, (within start.args.coding start.args.flags (length start.args.dst.now) (codes_of start.args.codes.now)).0, c.before.before.before.if-dst-gt-LIMIT.false))
+  few = rw c.encode_packed-r.ensures.0 (omega (arith, (within start.args.coding start.args.flags (length start.args.dst.now) (codes_of start.args.codes.now)).0))
 
 returns-6 : tie.Need-returns
 unfolding encoded_of

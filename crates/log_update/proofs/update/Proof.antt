@@ -12,43 +12,32 @@ use Rattle.log_update.proofs.update.Tie as tie
 
 -- where it is known whether the records fit
 module _ (c : tie.After-are_few) where
-  abbrev start : tie.Start
-  start = c.before.before.before.before.before.before.before.before
-
   abbrev log : List ℕ
-  log = start.args.log.now
+  log = c.args.log.now
 
   abbrev index : List ℕ
-  index = start.args.index.now
+  index = c.args.index.now
 
-  long : start.args.was ≤ length log
+  long : c.args.was ≤ length log
   long = omega arith
 
-  room : start.args.old * 8 ≤ length index
+  room : c.args.old * 8 ≤ length index
   room = omega arith
 
   octets : Octets index
   octets i = omega (arith, c.slice_known-1.given i)
-
-few : (c : tie.After-struct_known-1) → c.resume_of-r.result.count ≤ c.args.old
-few c =
-    let r = c.before.before in
-    let s = r.before.before.before.before.before in
-    count-few s.args.log.now s.args.index.now s.args.was s.args.old (omega arith) (omega arith) r.resume_of-r.result r.resume_of-r.ensures
 
 returns-3 : tie.Need-returns-then-are_few
 returns-3 c =
     let l = c.before.before.before in
     let t = l.before.before.before in
     let d = t.before in
-    let r = d.before.before.before in
-    updated-all (log d) (index d) (start d).args.was (start d).args.old (long d) (room d) r.resume_of-r.result r.resume_of-r.ensures d.skip_of-skip.result d.skip_of-skip.ensures (octets d) (sym d.are_few.ensures ∙ t.if-are_few.true) _ _ l.lay_records-n.ensures
+    updated-all (log d) (index d) d.args.was d.args.old (long d) (room d) d.resume_of-r.result d.resume_of-r.ensures d.skip_of-skip.result d.skip_of-skip.ensures (octets d) (sym d.are_few.ensures ∙ t.if-are_few.true) _ _ l.lay_records-n.ensures
 
 returns-4 : tie.Need-returns
 returns-4 c =
     let d = c.before in
-    let r = d.before.before.before in
-    updated-full (log d) (index d) (start d).args.was (start d).args.old (long d) (room d) r.resume_of-r.result r.resume_of-r.ensures d.skip_of-skip.result d.skip_of-skip.ensures (sym d.are_few.ensures ∙ c.if-are_few.false)
+    updated-full (log d) (index d) d.args.was d.args.old (long d) (room d) d.resume_of-r.result d.resume_of-r.ensures d.skip_of-skip.result d.skip_of-skip.ensures (sym d.are_few.ensures ∙ c.if-are_few.false)
 
 pub update_spec : {M : Type 1} → statement M
 update_spec =
@@ -60,17 +49,17 @@ update_spec =
     updated-many a.log.now a.index.now a.was a.old (omega arith) (omega arith))
     (λ c κs. search rules)
     (λ c κs. search rules)
-    (λ c. omega (arith, few c))
+    (λ c. omega (arith, count-few c.args.log.now c.args.index.now c.args.was c.args.old (omega arith) (omega arith) c.resume_of-r.result c.resume_of-r.ensures))
     (λ c κs. search rules)
-    (λ c. let d = c.before.before.before in omega (arith, few d))
-    (λ c. let d = c.before.before.before in omega (arith, few d))
-    (λ c. let d = c.before.before.before in omega (arith, few d))
+    (λ c. omega (arith, count-few c.args.log.now c.args.index.now c.args.was c.args.old (omega arith) (omega arith) c.resume_of-r.result c.resume_of-r.ensures))
+    (λ c. omega (arith, count-few c.args.log.now c.args.index.now c.args.was c.args.old (omega arith) (omega arith) c.resume_of-r.result c.resume_of-r.ensures))
+    (λ c. omega (arith, count-few c.args.log.now c.args.index.now c.args.was c.args.old (omega arith) (omega arith) c.resume_of-r.result c.resume_of-r.ensures))
     (λ c. search rules)
     (λ c κs. search rules)
     (λ c.
     let l = c.before.before.before in
     let d = l.before.before.before.before in
-    omega (arith, few d.before, laid-few (index d) _ _ _ l.lay_records-n.ensures.0, (start d).well_formed.1.1.0.1))
+    omega (arith, count-few d.args.log.now d.args.index.now d.args.was d.args.old (omega arith) (omega arith) d.resume_of-r.result d.resume_of-r.ensures, laid-few (index d) _ _ _ l.lay_records-n.ensures.0, d.well_formed.1.1.0.1))
     (λ c. search rules)
     returns-3
     (λ c. search rules)
