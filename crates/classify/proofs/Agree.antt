@@ -4,7 +4,7 @@ use mathlib.Core.Bool.{Bool, true, false}
 use mathlib.Core.List.{[]}
 use Prim.Native.Nat.{ℕ, ◌≤◌, ◌<◌}
 use native.Mathlib.Omega.{arith}
-use lib.Dec.{eqb, ltb, eqb→eq}
+use lib.Dec.{T, eqb, ltb, eqb→eq}
 use lib.ListN.{get_or-eq_default}
 use borrow.Author.Tests.{ltb-true, ltb-false}
 use Rattle.form.specs.Table as Table
@@ -15,6 +15,7 @@ use Rattle.forms.specs.declared.Form.{Form}
 use Rattle.forms.specs.Forms.{rows_of}
 use Rattle.forms.proofs.Forms.{every_form}
 use Rattle.classes.specs.Class.{ranges, class_of, digit_of}
+use Rattle.classes.proofs.Rows as Rows
 use Rattle.lead.specs.Lead.{lead_of}
 use Rattle.classify.specs.Stage.{stages, left, stage_of, nexts_of}
 use Rattle.classify.proofs.Stages.{stage_by, lead_stage}
@@ -22,6 +23,10 @@ use Rattle.classify.proofs.Stages.{stage_by, lead_stage}
 -- by its class a byte leads to the stage that it leaves
 abbrev pub ByClass : Table.Form → ℕ → Type 0
 ByClass F b = digit_of (nexts_of F) (class_of b) ≡ stage_of (after b F)
+
+-- a row of the tables, by a test that is computed at its form or its stage
+pub row_computed : (F G : Table.Form) (n : ℕ) → G ≡ F → T (eqb n (nexts_of F)) → n ≡ nexts_of G
+row_computed F G n e t = Rows.row_computed nexts_of F G n e t
 
 agrees : Table.Form → ℕ → Bool
 agrees F b = eqb (digit_of (nexts_of F) (class_of b)) (stage_of (after b F))

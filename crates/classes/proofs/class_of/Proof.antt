@@ -1,7 +1,6 @@
 -- The digit of a byte's low digit, in the row of its high one. Assumes nothing.
 use mathlib.Core.Path.{ap, ◌∙◌}
 use Prim.Native.Nat.{ℕ, ◌%◌}
-use native.Mathlib.Omega.{arith}
 use borrow.Author.Rules.{rules}
 use Rattle.classes.specs.Class.{digit_of}
 use Rattle.classes.proofs.Chart.{chart_class}
