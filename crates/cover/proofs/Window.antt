@@ -9,7 +9,7 @@ use lib.ListN.{length, take, drop, length-drop}
 use lib.Seq.{take_all}
 use borrow.Author.Tests.{ltb-true, ltb-false}
 use Rattle.form.specs.Table.{plain}
-use Rattle.form.specs.Text.{code, items}
+use Rattle.form.specs.Text.{items}
 use Rattle.bounds.specs.Cover.{Cover, none, covers, covering, shift, window}
 use Rattle.form.proofs.Utf8.{plain-regular, plain-leads}
 use Rattle.bounds.proofs.Apart.{plain-apart}

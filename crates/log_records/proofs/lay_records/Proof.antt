@@ -27,6 +27,10 @@ step c = step_part _ _ _ (omega arith) c.span_of.ensures
 abbrev turn : tie.After-slice_known-in-loop-at-1 invariant-loop decreases-loop → tie.After-span_of invariant-loop decreases-loop
 turn c = c.before.before.before.before.before.before
 
+-- no room for a record
+full : tie.Need-returns-then-out-n invariant-loop decreases-loop
+full c = laid-full _ _ _ _ _ _ _ _ c.loop-at.invariant (omega arith)
+
 pub lay_records_spec : {M : Type 1} → statement M
 lay_records_spec =
     tie.close
@@ -43,7 +47,7 @@ lay_records_spec =
     (λ c. let d = c.before in omega (arith, (step d).some, (step d).within))
     (λ c. let d = c.before in laid-pass _ _ _ _ _ _ _ _ (place d).loop-at.invariant _ (step d) (omega arith))
     (λ c. (place c.before.before).loop-at.invariant.same)
-    (λ c. laid-full _ _ _ _ _ _ _ _ (place c.before.before).loop-at.invariant (omega arith))
+    full
     (λ c. omega arith)
     (λ c. omega arith)
     (λ c. omega arith)
