@@ -1,11 +1,11 @@
 #!/usr/bin/env python3
-"""Brings the repository's own definitions and lemmas to the spelling of the newer Rattle, once, after its port script.
+"""Brings the repository's own definitions and lemmas to the spelling of the newer Rattle, after its port script.
 
     tools/snake_names.py [--list]      at the top of the repository; --list prints the names and changes nothing
 
 Words are in snake case: a name in camel case gets underscores. Types are in camel case. A dash joins two names and stands in lemmas alone: in a lemma it stays between two words that
 are names by themselves, as in `length-drop`, and is an underscore elsewhere; in a definition, a field or a constructor it is an underscore. Names that come
-from src/ and names that Rattle generates keep their spelling.
+from src/ and names that Rattle generates keep their spelling. It was run twice (docs/PORT.md): names that the first run makes are names that dashes may join.
 """
 import glob
 import re
