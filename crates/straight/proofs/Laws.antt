@@ -1,5 +1,7 @@
 -- What a straight line tells, for the loops that go by it. Assumes nothing.
-use mathlib.Core.Path.{◌≡◌, refl, ap, ◌∙◌}
+use mathlib.Core.Path.{◌≡◌, refl, sym, ap, ◌∙◌}
+use Rattle.std.specs.Prelude.{Option, Some, None}
+use Rattle.std.proofs.lemmas.Option.{same_Some, none-some}
 use mathlib.Core.Bool.{Bool, true, false}
 use mathlib.Core.List.{List, [], ◌∷◌, ◌++◌}
 use Prim.Native.Nat.{ℕ, zero, suc, ◌≤◌, ◌<◌}
@@ -14,6 +16,7 @@ use Rattle.form.proofs.After.{resume}
 use Rattle.forms.specs.declared.Form.{Form}
 use Rattle.forms.specs.Forms.{rows_of}
 use Rattle.forms.proofs.Forms.{form_regular, form_scans, every_form}
+use Rattle.straight.specs.declared.Straight.{Straight}
 use Rattle.straight.specs.Straight.{straight_of}
 use Rattle.straight.proofs.Shapes.{codes-pair}
 
@@ -32,15 +35,14 @@ stray-scan f b t h g =
     let e = every_form (λ F x. none? (after x F)) 0x80 66 tt tt tt f b h (omega arith) in
     (0, (form_scans f).by_byte b t ∙ resume-none (after b (rows_of f)) t e)
 
--- a length other than 0 is that of what is found
-well-told : (x : Found) → ((straight_of x).len ≡ 0 → ⊥) → x ≡ well (straight_of x).code (straight_of x).len
-well-told (well c n) h = refl
-well-told part h = absurd (h refl)
-well-told (bad n) h = absurd (h refl)
+-- what is told is what is found
+well-told : (x : Found) (r : Straight) → Some r ≡ straight_of x → x ≡ well r.code r.len
+well-told (well c n) r h = ap (λ (t : Straight). well t.code t.len) (sym (same_Some r (record { len = n; code = c }) h))
+well-told part r h = absurd (none-some r (sym h))
+well-told (bad n) r h = absurd (none-some r (sym h))
 
-pub straight_well : (f : Form) (s : List ℕ) → ((straight_of (scan (rows_of f) s)).len ≡ 0 → ⊥)
-    → scan (rows_of f) s ≡ well (straight_of (scan (rows_of f) s)).code (straight_of (scan (rows_of f) s)).len
-straight_well f s h = well-told (scan (rows_of f) s) h
+pub straight_well : (f : Form) (s : List ℕ) (r : Straight) → Some r ≡ straight_of (scan (rows_of f) s) → scan (rows_of f) s ≡ well r.code r.len
+straight_well f s r h = well-told (scan (rows_of f) s) r h
 
 -- ---- with four bytes left
 
@@ -49,13 +51,12 @@ long-first : (f : Form) (b : ℕ) (w : List ℕ) (c : ℕ) → Codes (rows_of f)
 long-first f b w c h l = let (g, n, p, e) = (codes-pair f (b ∷ w) c).0 (h, l) in p.0
 
 -- a place with four bytes, no sequence and a first byte other than ED is bad: not partial
-pub sure_bad : (f : Form) (b : ℕ) (t : List ℕ) → (b ≡ 0xED → ⊥) → 4 ≤ length (b ∷ t) → (straight_of (scan (rows_of f) (b ∷ t))).len ≡ 0
+pub sure_bad : (f : Form) (b : ℕ) (t : List ℕ) → (b ≡ 0xED → ⊥) → 4 ≤ length (b ∷ t) → None ≡ straight_of (scan (rows_of f) (b ∷ t))
     → (n : ℕ) × (scan (rows_of f) (b ∷ t) ≡ bad n)
 sure_bad f b t ne l z = go (scan (rows_of f) (b ∷ t)) refl
   where
     go : (x : Found) → scan (rows_of f) (b ∷ t) ≡ x → (n : ℕ) × (scan (rows_of f) (b ∷ t) ≡ bad n)
-    go (well c zero) e = absurd (codes-nil (rows_of f) c (form_regular f).is_open (scan-well (rows_of f) (b ∷ t) c zero e).0)
-    go (well c (suc m)) e = absurd (omega (arith, ap (λ (x : Found). (straight_of x).len) e))
+    go (well c m) e = absurd (none-some _ (z ∙ ap straight_of e))
     go part e =
         let (p, (u, q, (c, h))) = ((form_scans f).finds_part (b ∷ t) (omega arith)).0 e in
         absurd (ne (long-first f b (t ++ u) c h (omega (arith, length-append t u))))

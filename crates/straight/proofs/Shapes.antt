@@ -1,8 +1,9 @@
 -- What a straight line goes by: the shapes of Table 3-6, and the pairs of CESU-8. Assumes nothing.
 use mathlib.Core.Path.{◌≡◌, refl, sym, ap, ◌∙◌, subst}
-use mathlib.Core.Logic.{◌↔◌, inl, inr}
+use mathlib.Core.Logic.{◌↔◌, ◌⊎◌, inl, inr}
 use mathlib.Core.Bool.{Bool, true, false}
 use mathlib.Core.List.{List, [], ◌∷◌, ◌++◌}
+use Rattle.std.specs.Prelude.{Option, Some, None}
 use Prim.Native.Nat.{ℕ, ◌+◌, ◌-◌, ◌*◌, ◌≤◌, ◌<◌}
 use native.Mathlib.Omega.{arith}
 use lib.Dec.{ltb}
@@ -109,18 +110,21 @@ codes-pair Cesu w c = (λ (h, l). let (n, p, e) = cesu-long w c h l in (tt, n, p
 
 -- ---- what is told where a sequence stands, and where none does
 
-abbrev Tells : Form → List ℕ → ℕ → ℕ → Type 0
-Tells f s n c = ◌≡◌ {A = Straight} (record { len = n; code = c }) (straight_of (scan (rows_of f) s))
+abbrev pub Tells : Form → List ℕ → Straight → Type 0
+Tells f s r = ◌≡◌ {A = Option Straight} (Some r) (straight_of (scan (rows_of f) s))
+
+abbrev pub Lost : Form → List ℕ → Type 0
+Lost f s = ◌≡◌ {A = Option Straight} None (straight_of (scan (rows_of f) s))
 
 -- nothing where no beginning is a sequence
 lost : (f : Form) (s : List ℕ) → ((w t : List ℕ) (c : ℕ) → w ++ t ≡ s → Shape w c → Has f c → ⊥)
-    → ((w t : List ℕ) → w ++ t ≡ s → length w ≡ 6 → Pair w → Pairs f → ⊥) → Tells f s 0 0
-lost f s none unpaired = go (scan (rows_of f) s) refl
+    → ((w t : List ℕ) → w ++ t ≡ s → length w ≡ 6 → Pair w → Pairs f → ⊥) → Lost f s
+lost f s unshaped unpaired = go (scan (rows_of f) s) refl
   where
-    go : (x : Found) → scan (rows_of f) s ≡ x → Tells f s 0 0
+    go : (x : Found) → scan (rows_of f) s ≡ x → Lost f s
     go (well c m) e = by_length (ltb 4 m) refl
       where
-        by_length : (t : Bool) → ltb 4 m ≡ t → Tells f s 0 0
+        by_length : (t : Bool) → ltb 4 m ≡ t → Lost f s
         by_length true p =
             let (k, l) = scan-well (rows_of f) s c m e in
             let (g, n, q, i) = (codes-pair f (take m s) c).0 (k, omega (arith, ltb-true 4 m p, length-take m s)) in
@@ -128,7 +132,7 @@ lost f s none unpaired = go (scan (rows_of f) s) refl
         by_length false p =
             let (k, l) = scan-well (rows_of f) s c m e in
             let (h, g) = (codes_shape f (take m s) c).0 (k, omega (arith, ltb-false 4 m p, length-take m s)) in
-            absurd (none (take m s) (drop m s) c (take-append-drop m s) h g)
+            absurd (unshaped (take m s) (drop m s) c (take-append-drop m s) h g)
     go part e = sym (ap straight_of e)
     go (bad n) e = sym (ap straight_of e)
 
@@ -153,7 +157,7 @@ Not f front s = (c : ℕ) → length (front s) ≤ length s → Shape (front s) 
 abbrev Unpaired : Form → List ℕ → Type 0
 Unpaired f s = 6 ≤ length s → Pair s → Pairs f → ⊥
 
-lost_all : (f : Form) (s : List ℕ) → Not f front1 s → Not f front2 s → Not f front3 s → Not f front4 s → Unpaired f s → Tells f s 0 0
+lost_all : (f : Form) (s : List ℕ) → Not f front1 s → Not f front2 s → Not f front3 s → Not f front4 s → Unpaired f s → Lost f s
 lost_all f s n1 n2 n3 n4 n6 =
     lost f s
     (λ w t c e. let i = sym e in go w t c (subst (Not f front1) i n1) (subst (Not f front2) i n2) (subst (Not f front3) i n3) (subst (Not f front4) i n4))
@@ -177,41 +181,41 @@ lost_all f s n1 n2 n3 n4 n6 =
     six [] t m n p g = omega arith
 
 -- by the range of the first byte there is one length to ask about; from E0 to EF pairs too
-pub lost_none : (f : Form) (s : List ℕ) → length s ≡ 0 → Tells f s 0 0
+pub lost_none : (f : Form) (s : List ℕ) → length s ≡ 0 → Lost f s
 lost_none f s e = lost_all f s (λ c l h g. omega arith) (λ c l h g. omega arith) (λ c l h g. omega arith) (λ c l h g. omega arith) (λ l h g. omega arith)
 
-pub lost_one : (f : Form) (s : List ℕ) → In (0x80 to 0xC1) (get_or s 0 0) → Tells f s 0 0
+pub lost_one : (f : Form) (s : List ℕ) → In (0x80 to 0xC1) (get_or s 0 0) → Lost f s
 lost_one f s p = lost_all f s (λ c l h g. omega arith) (λ c l h g. omega arith) (λ c l h g. omega arith) (λ c l h g. omega arith) (λ l h g. omega arith)
 
-pub lost_two : (f : Form) (s : List ℕ) → In (0xC2 to 0xDF) (get_or s 0 0) → Not f front2 s → Tells f s 0 0
+pub lost_two : (f : Form) (s : List ℕ) → In (0xC2 to 0xDF) (get_or s 0 0) → Not f front2 s → Lost f s
 lost_two f s p k = lost_all f s (λ c l h g. omega arith) k (λ c l h g. omega arith) (λ c l h g. omega arith) (λ l h g. omega arith)
 
-pub lost_three : (f : Form) (s : List ℕ) → In (0xE0 to 0xEF) (get_or s 0 0) → Not f front3 s → Unpaired f s → Tells f s 0 0
+pub lost_three : (f : Form) (s : List ℕ) → In (0xE0 to 0xEF) (get_or s 0 0) → Not f front3 s → Unpaired f s → Lost f s
 lost_three f s p k n = lost_all f s (λ c l h g. omega arith) (λ c l h g. omega arith) k (λ c l h g. omega arith) n
 
-pub lost_four : (f : Form) (s : List ℕ) → In (0xF0 to 0xFF) (get_or s 0 0) → Not f front4 s → Tells f s 0 0
+pub lost_four : (f : Form) (s : List ℕ) → In (0xF0 to 0xFF) (get_or s 0 0) → Not f front4 s → Lost f s
 lost_four f s p k = lost_all f s (λ c l h g. omega arith) (λ c l h g. omega arith) (λ c l h g. omega arith) k (λ l h g. omega arith)
 
 -- a shape's code and length
-told : (f : Form) (w t : List ℕ) (c : ℕ) → Shape w c → Has f c → Tells f (w ++ t) (length w) c
+told : (f : Form) (w t : List ℕ) (c : ℕ) → Shape w c → Has f c → Tells f (w ++ t) (record { len = length w; code = c })
 told f w t c h g = sym (ap straight_of (scan_shape f w t c h g))
 
-pub found-one : (f : Form) (s : List ℕ) (c : ℕ) → 1 ≤ length s → Shape (front1 s) c → Has f c → Tells f s 1 c
+pub found-one : (f : Form) (s : List ℕ) (c : ℕ) → 1 ≤ length s → Shape (front1 s) c → Has f c → Tells f s (record { len = 1; code = c })
 found-one f (x ∷ t) c l h g = told f (x ∷ []) t c h g
 found-one f [] c l h g = absurd (omega arith)
 
-pub found-two : (f : Form) (s : List ℕ) (c : ℕ) → 2 ≤ length s → Shape (front2 s) c → Has f c → Tells f s 2 c
+pub found-two : (f : Form) (s : List ℕ) (c : ℕ) → 2 ≤ length s → Shape (front2 s) c → Has f c → Tells f s (record { len = 2; code = c })
 found-two f (x ∷ y ∷ t) c l h g = told f (x ∷ y ∷ []) t c h g
 found-two f (x ∷ []) c l h g = absurd (omega arith)
 found-two f [] c l h g = absurd (omega arith)
 
-pub found-three : (f : Form) (s : List ℕ) (c : ℕ) → 3 ≤ length s → Shape (front3 s) c → Has f c → Tells f s 3 c
+pub found-three : (f : Form) (s : List ℕ) (c : ℕ) → 3 ≤ length s → Shape (front3 s) c → Has f c → Tells f s (record { len = 3; code = c })
 found-three f (x ∷ y ∷ z ∷ t) c l h g = told f (x ∷ y ∷ z ∷ []) t c h g
 found-three f (x ∷ y ∷ []) c l h g = absurd (omega arith)
 found-three f (x ∷ []) c l h g = absurd (omega arith)
 found-three f [] c l h g = absurd (omega arith)
 
-pub found_four : (f : Form) (s : List ℕ) (c : ℕ) → 4 ≤ length s → Shape (front4 s) c → Has f c → Tells f s 4 c
+pub found_four : (f : Form) (s : List ℕ) (c : ℕ) → 4 ≤ length s → Shape (front4 s) c → Has f c → Tells f s (record { len = 4; code = c })
 found_four f (x ∷ y ∷ z ∷ v ∷ t) c l h g = told f (x ∷ y ∷ z ∷ v ∷ []) t c h g
 found_four f (x ∷ y ∷ z ∷ []) c l h g = absurd (omega arith)
 found_four f (x ∷ y ∷ []) c l h g = absurd (omega arith)
@@ -219,7 +223,7 @@ found_four f (x ∷ []) c l h g = absurd (omega arith)
 found_four f [] c l h g = absurd (omega arith)
 
 -- a pair's
-pub found-pair : (s : List ℕ) (c : ℕ) → 6 ≤ length s → Pair s → c ≡ pair_code s → Tells Cesu s 6 c
+pub found-pair : (s : List ℕ) (c : ℕ) → 6 ≤ length s → Pair s → c ≡ pair_code s → Tells Cesu s (record { len = 6; code = c })
 found-pair (x ∷ y ∷ z ∷ v ∷ u ∷ o ∷ t) c l p e =
     let w = x ∷ y ∷ z ∷ v ∷ u ∷ o ∷ [] in
     sym (ap straight_of (well-scan (rows_of Cesu) w t c (form_regular Cesu).is_distinct ((codes-pair Cesu w c).1 (tt, refl, p, e)).0))
@@ -243,11 +247,13 @@ has_high Plain c h g = inr (inl (omega arith))
 has_high Surro c h g = omega arith
 has_high Cesu c h g = (inr (inl (omega arith)), omega arith)
 
-pub plain-beyond : (f : Form) (c : ℕ) → f ≡ Plain → 0xFFFF < c → c ≤ 0x10FFFF → Has f c
-plain-beyond f c e h g = subst (λ (x : Form). Has x c) (sym e) (inr (inl (omega arith)))
-
 pub surro_all : (f : Form) (c : ℕ) → f ≡ Surro → c ≤ 0x10FFFF → Has f c
 surro_all f c e h = subst (λ (x : Form). Has x c) (sym e) h
+
+-- beyond FFFF, UTF-8 has all, with SURRO or without
+pub has_long : (f : Form) (c : ℕ) → (f ≡ Plain) ⊎ (f ≡ Surro) → 0xFFFF < c → c ≤ 0x10FFFF → Has f c
+has_long f c (inl e) h g = subst (λ (x : Form). Has x c) (sym e) (inr (inl (omega arith)))
+has_long f c (inr e) h g = surro_all f c e g
 
 pub plain-surrogate : (f : Form) (c : ℕ) → f ≡ Plain → In (0xD800 to 0xDFFF) c → Has f c → ⊥
 plain-surrogate f c e h g = omega (arith, scalar-outside c (subst (λ (x : Form). Has x c) e g) h.0)
@@ -263,5 +269,12 @@ cesu-beyond f c e h g = let i = subst (λ (x : Form). Has x c) e g in omega (ari
 
 -- so where three bytes have a surrogate's code CESU-8 has a pair or nothing
 pub lost_pair : (s : List ℕ) (high : ℕ) → In (0xD800 to 0xDFFF) high → In (0xE0 to 0xEF) (get_or s 0 0)
-    → high ≡ (get_or s 0 0 - 0xE0) * 0x1000 + (get_or s 1 0 - 0x80) * 0x40 + (get_or s 2 0 - 0x80) → (6 ≤ length s → Pair s → ⊥) → Tells Cesu s 0 0
+    → high ≡ (get_or s 0 0 - 0xE0) * 0x1000 + (get_or s 1 0 - 0x80) * 0x40 + (get_or s 2 0 - 0x80) → (6 ≤ length s → Pair s → ⊥) → Lost Cesu s
 lost_pair s high p q e n = lost_three Cesu s q (λ c l h g. cesu-surrogate c (omega arith) g) (λ l h g. n l h)
+
+-- a byte by itself
+pub ascii_tells : (f : Form) (s : List ℕ) → 0 < length s → get_or s 0 0 < 0x80 → Tells f s (record { len = 1; code = get_or s 0 0 })
+ascii_tells f s h l = found-one f s (get_or s 0 0) h (omega arith) (has_low f (get_or s 0 0) (omega arith))
+
+pub stray_tells : (f : Form) (s : List ℕ) → 0x80 ≤ get_or s 0 0 → get_or s 0 0 < 0xC2 → Lost f s
+stray_tells f s h l = lost_one f s (omega arith)

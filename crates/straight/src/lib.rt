@@ -1,7 +1,7 @@
-// The sequence at the front of a slice, in a straight line. Each byte is read after the tests before it, so that no test is joined to another.
+// The sequence at the front of a slice, in a straight line. Each byte is read after the tests before it.
 #![tactic(auto)]
 
-ghost use Rattle.std.specs.Prelude.{◌≡◌, ◌+◌, ◌-◌, ◌*◌, get_or};
+ghost use Rattle.std.specs.Prelude.{◌≡◌, ◌+◌, ◌-◌, ◌*◌, ◌↔◌, IsTrue, Option, None, get_or};
 ghost use Rattle.form.specs.Table.{◌to◌, tail, cesu, In};
 ghost use Rattle.form.specs.Scan.{scan};
 ghost use Rattle.forms.specs.Forms.{rows_of};
@@ -9,17 +9,17 @@ ghost use Rattle.straight.specs.Straight.{straight_of, InEvery};
 
 use forms::Form;
 
-// The length and the code of a well-formed sequence; zeros where there is none.
+// The length and the code of a well-formed sequence.
 #[derive(Clone, Copy)]
 pub struct Straight {
     pub len: usize,
     pub code: u32,
 }
 
-fn found(len: usize, code: u32) -> Straight
-    ensures { result ≡ record { len = len; code = code } }
+fn is_tail(b: u8) -> bool
+    ensures { IsTrue result ↔ In tail b }
 {
-    Straight { len, code }
+    0x80 <= b && b <= 0xBF
 }
 
 // The code of two bytes, by the bits below their marks; then of three and of four.
@@ -56,157 +56,124 @@ fn code6(high: u32, e: u8, f: u8) -> u32
 }
 
 // A sequence that C2..DF begins: every form has the same ones.
-fn two(s: &[u8]) -> Straight
+fn two(s: &[u8]) -> Option<Straight>
     requires { In (0xC2 to 0xDF) (get_or s.now 0 0) }
     ensures { InEvery result s.now }
 {
     if s.len() < 2 {
-        return found(0, 0);
+        return None;
     }
     let b = s[1];
-    if b < 0x80 {
-        return found(0, 0);
+    if !is_tail(b) {
+        return None;
     }
-    if 0xBF < b {
-        return found(0, 0);
-    }
-    found(2, code2(s[0], b))
+    Some(Straight {
+        len: 2,
+        code: code2(s[0], b),
+    })
 }
 
 // CESU-8's sequence that a surrogate of three bytes begins: a pair, a high surrogate and a low one.
-fn pair(s: &[u8], high: u32) -> Straight
+fn pair(s: &[u8], high: u32) -> Option<Straight>
     requires { In (0xD800 to 0xDFFF) high × In (0xE0 to 0xEF) (get_or s.now 0 0) × In tail (get_or s.now 1 0) × In tail (get_or s.now 2 0)
         × (high ≡ (get_or s.now 0 0 - 0xE0) * 0x1000 + (get_or s.now 1 0 - 0x80) * 0x40 + (get_or s.now 2 0 - 0x80)) }
     ensures { result ≡ straight_of (scan cesu s.now) }
 {
-    if 0xDBFF < high {
-        return found(0, 0);
+    if 0xDBFF < high || s.len() < 6 {
+        return None;
     }
-    if s.len() < 6 {
-        return found(0, 0);
-    }
-    let d = s[3];
-    if d != 0xED {
-        return found(0, 0);
+    if s[3] != 0xED {
+        return None;
     }
     let e = s[4];
-    if e < 0xB0 {
-        return found(0, 0);
-    }
-    if 0xBF < e {
-        return found(0, 0);
+    if e < 0xB0 || 0xBF < e {
+        return None;
     }
     let f = s[5];
-    if f < 0x80 {
-        return found(0, 0);
+    if !is_tail(f) {
+        return None;
     }
-    if 0xBF < f {
-        return found(0, 0);
-    }
-    found(6, code6(high, e, f))
+    Some(Straight {
+        len: 6,
+        code: code6(high, e, f),
+    })
 }
 
 // A sequence that E0..EF begins.
-fn three(form: Form, s: &[u8]) -> Straight
+fn three(form: Form, s: &[u8]) -> Option<Straight>
     requires { In (0xE0 to 0xEF) (get_or s.now 0 0) }
     ensures { result ≡ straight_of (scan (rows_of form) s.now) }
 {
     if s.len() < 3 {
-        return found(0, 0);
+        return None;
     }
     let b = s[1];
-    if b < 0x80 {
-        return found(0, 0);
-    }
-    if 0xBF < b {
-        return found(0, 0);
+    if !is_tail(b) {
+        return None;
     }
     let c = s[2];
-    if c < 0x80 {
-        return found(0, 0);
-    }
-    if 0xBF < c {
-        return found(0, 0);
+    if !is_tail(c) {
+        return None;
     }
     let code = code3(s[0], b, c);
-    if code < 0x800 {
-        return found(0, 0);
-    }
-    if code < 0xD800 {
-        return found(3, code);
-    }
-    if 0xDFFF < code {
-        return found(3, code);
-    }
-    match form {
-        Form::Plain => found(0, 0),
-        Form::Surro => found(3, code),
-        Form::Cesu => pair(s, code),
+    match code {
+        0..=0x7FF => None,
+        0xD800..=0xDFFF => match form {
+            Form::Plain => None,
+            Form::Surro => Some(Straight { len: 3, code }),
+            Form::Cesu => pair(s, code),
+        },
+        _ => Some(Straight { len: 3, code }),
     }
 }
 
 // A sequence that F0..FF begins.
-fn four(form: Form, s: &[u8]) -> Straight
+fn four(form: Form, s: &[u8]) -> Option<Straight>
     requires { In (0xF0 to 0xFF) (get_or s.now 0 0) }
     ensures { result ≡ straight_of (scan (rows_of form) s.now) }
 {
     if s.len() < 4 {
-        return found(0, 0);
+        return None;
     }
     let b = s[1];
-    if b < 0x80 {
-        return found(0, 0);
-    }
-    if 0xBF < b {
-        return found(0, 0);
+    if !is_tail(b) {
+        return None;
     }
     let c = s[2];
-    if c < 0x80 {
-        return found(0, 0);
-    }
-    if 0xBF < c {
-        return found(0, 0);
+    if !is_tail(c) {
+        return None;
     }
     let d = s[3];
-    if d < 0x80 {
-        return found(0, 0);
-    }
-    if 0xBF < d {
-        return found(0, 0);
+    if !is_tail(d) {
+        return None;
     }
     let code = code4(s[0], b, c, d);
-    if code < 0x10000 {
-        return found(0, 0);
-    }
-    if 0x10FFFF < code {
-        return found(0, 0);
+    if code < 0x10000 || 0x10FFFF < code {
+        return None;
     }
     match form {
-        Form::Plain => found(4, code),
-        Form::Surro => found(4, code),
-        Form::Cesu => found(0, 0), // CESU-8 has it as a pair
+        Form::Plain | Form::Surro => Some(Straight { len: 4, code }),
+        Form::Cesu => None, // CESU-8 has it as a pair
     }
 }
 
-// The well-formed sequence at the front of s. Zeros for anything else: no bytes, a sequence that the end of s cuts, bad bytes.
-pub fn straight_of(form: Form, s: &[u8]) -> Straight
+// The well-formed sequence at the front of s. None for anything else: no bytes, a sequence that the end of s cuts, bad bytes.
+#[tactic(auto, using(crate::proofs::Shapes::lost_none, crate::proofs::Shapes::ascii_tells, crate::proofs::Shapes::stray_tells))]
+pub fn straight_of(form: Form, s: &[u8]) -> Option<Straight>
     ensures { result ≡ straight_of (scan (rows_of form) s.now) }
 {
     if s.len() == 0 {
-        return found(0, 0);
+        return None;
     }
     let a = s[0];
-    if a < 0x80 {
-        return found(1, a as u32);
+    match a {
+        0..=0x7F => Some(Straight {
+            len: 1,
+            code: a as u32,
+        }),
+        0x80..=0xC1 => None,
+        0xC2..=0xDF => two(s),
+        0xE0..=0xEF => three(form, s),
+        0xF0..=0xFF => four(form, s),
     }
-    if a < 0xC2 {
-        return found(0, 0);
-    }
-    if a < 0xE0 {
-        return two(s);
-    }
-    if 0xF0 <= a {
-        return four(form, s);
-    }
-    three(form, s)
 }
