@@ -48,21 +48,17 @@ fn refuses_surro(coding: Coding, number: u32) -> bool
 }
 
 // Whether the reader refuses the flag number.
+#[tactic(auto, unfolding(crate::specs::Codings::reader_refuses_in))]
 pub fn reader_refuses_in(coding: Coding, number: u32) -> bool
     ensures { result ≡ reader_refuses_in coding number }
 {
-    if refuses_surro(coding, number) {
-        return true;
-    }
-    flags::reader_refuses(number)
+    refuses_surro(coding, number) || flags::reader_refuses(number)
 }
 
 // Whether the writer refuses it.
+#[tactic(auto, unfolding(crate::specs::Codings::writer_refuses_in))]
 pub fn writer_refuses_in(coding: Coding, number: u32) -> bool
     ensures { result ≡ writer_refuses_in coding number }
 {
-    if refuses_surro(coding, number) {
-        return true;
-    }
-    flags::writer_refuses(number)
+    refuses_surro(coding, number) || flags::writer_refuses(number)
 }

@@ -1,47 +1,54 @@
--- The walk of `number_of`. Assumes nothing.
-use mathlib.Core.Path.{◌≡◌, refl, sym, ap, ◌∙◌}
-use mathlib.Core.List.{List, ◌∷◌}
-use Prim.Native.Nat.{ℕ, suc, ◌+◌, ◌-◌, ◌*◌, ◌≤◌, ◌<◌}
-use native.Mathlib.Omega.{arith}
-use lib.ListN.{length, take, drop, get_or, length-take, drop_of_length-le}
-use lib.Seq.{drop-cons, get_or-take}
+-- The walk of `number_of`, from the last byte to the first. Assumes nothing.
+use Rattle.std.proofs.Common.{◌≡◌, refl, sym, ap, ◌∙◌, List, [], ◌∷◌, ℕ, suc, ◌+◌, ◌-◌, ◌*◌, ◌≤◌, ◌<◌, length, take, min, arith, length-append, length-take}
+use Rattle.std.proofs.lemmas.List.{take_min}
+use Rattle.std.specs.List.{push}
 use Rattle.numbers.specs.Number.{value}
 use Rattle.numbers.proofs.Laws.{count, count_le}
 
--- n is the number of the bytes from i on
-pub record Got (s : List ℕ) (n i : ℕ) : Type 0 where
-  pub within : i ≤ 8
-  pub is : n ≡ value (drop i (take 8 s))
-  pub small : n < count (8 - i)
+-- the number of bytes below those of n
+abbrev pub below : List ℕ → ℕ → ℕ
+below [] n = n
+below (b ∷ w) n = b + 256 * below w n
 
-pub got_start : (s : List ℕ) → Got s 0 8
-got_start s = record { within = omega arith; is = rw (drop_of_length-le (take 8 s) {i = 8} (omega (arith, length-take 8 s))) refl; small = omega arith }
+below-zero : (w : List ℕ) → below w 0 ≡ value w
+below-zero [] = refl
+below-zero (b ∷ w) = ap (λ (m : ℕ). b + 256 * m) (below-zero w)
 
-pub got_room : (s : List ℕ) (n i : ℕ) → Got s n i → 0 < i → n < 72057594037927936
-got_room s n i G h = omega (arith, G.small, count_le (8 - i) 7 (omega arith))
+below-push : (w : List ℕ) (b n : ℕ) → below (push w b) n ≡ below w (n * 256 + b)
+below-push [] b n = omega arith
+below-push (a ∷ w) b n = ap (λ (m : ℕ). a + 256 * m) (below-push w b n)
 
-pub got_turn : (s : List ℕ) (n i b : ℕ) → Got s n i → 0 < i → i - 1 < length s → b < 256 → b ≡ get_or s (i - 1) 0 → Got s (n * 256 + b) (i - 1)
-got_turn s n i b G h l k e =
-    let z : suc (i - 1) ≡ i = omega arith in
-    let d : drop (i - 1) (take 8 s) ≡ get_or (take 8 s) (i - 1) 0 ∷ drop (suc (i - 1)) (take 8 s) = drop-cons (take 8 s) (i - 1) 0 (omega (arith, length-take 8 s, G.within)) in
-    let g : get_or (take 8 s) (i - 1) 0 ≡ b = get_or-take 8 s (i - 1) 0 (omega (arith, G.within)) ∙ sym e in
-    let c : 8 - (i - 1) ≡ suc (8 - i) = omega (arith, G.within) in
+-- n is the number of what w has after the rest
+pub record Got (w rest : List ℕ) (n : ℕ) : Type 0 where
+  pub is : below rest n ≡ value w
+  pub within : length rest ≤ 8
+  pub small : n < count (8 - length rest)
+
+pub got_start : (s rest : List ℕ) → rest ≡ take (min 8 (length s)) s → Got (take 8 s) rest 0
+got_start s rest e =
+    let h : length rest ≤ 8 = omega (arith, ap length e, length-take (min 8 (length s)) s) in
     record {
+      is = below-zero rest ∙ ap value (e ∙ take_min 8 s);
+      within = h;
+      small = omega (arith, count_le 0 (8 - length rest) (omega arith));
+    }
+
+left-length : (rest left : List ℕ) (b : ℕ) → rest ≡ push left b → length rest ≡ suc (length left)
+left-length rest left b e = omega (arith, ap length e, length-append left (b ∷ []))
+
+pub got_room : (w rest left : List ℕ) (n b : ℕ) → Got w rest n → rest ≡ push left b → n < 72057594037927936
+got_room w rest left n b G e = omega (arith, G.small, left-length rest left b e, count_le (8 - length rest) 7 (omega (arith, left-length rest left b e)))
+
+pub got_turn : (w rest left : List ℕ) (n b : ℕ) → Got w rest n → rest ≡ push left b → b < 256 → Got w left (n * 256 + b)
+got_turn w rest left n b G e h =
+    let l = left-length rest left b e in
+    let c : 8 - length left ≡ suc (8 - length rest) = omega (arith, G.within) in
+    record {
+      is = sym (below-push left b n) ∙ ap (λ (x : List ℕ). below x n) (sym e) ∙ G.is;
       within = omega (arith, G.within);
-      is =
-          (let f : n * 256 + b ≡ b + 256 * n = omega arith in f) ∙ ap (λ (m : ℕ). b + 256 * m) G.is
-          ∙ sym (ap value (d ∙ ap (λ (x : ℕ). x ∷ drop (suc (i - 1)) (take 8 s)) g ∙ ap (λ (k : ℕ). b ∷ drop k (take 8 s)) z));
       small = rw c (omega (arith, G.small));
     }
 
-pub got_pass : (s : List ℕ) (n i : ℕ) → Got s n i → 0 < i → length s ≤ i - 1 → Got s n (i - 1)
-got_pass s n i G h l =
-    let c : 8 - (i - 1) ≡ suc (8 - i) = omega (arith, G.within) in
-    record {
-      within = omega (arith, G.within);
-      is = G.is ∙ rw (drop_of_length-le (take 8 s) {i = i} (omega (arith, length-take 8 s)), drop_of_length-le (take 8 s) {i = i - 1} (omega (arith, length-take 8 s))) refl;
-      small = rw c (omega (arith, G.small));
-    }
-
-pub got_end : (s : List ℕ) (n i : ℕ) → Got s n i → i ≤ 0 → n ≡ value (take 8 s)
-got_end s n i G h = let z : i ≡ 0 = omega arith in G.is ∙ rw z refl
+pub got_end : (w rest : List ℕ) (n : ℕ) → Got w rest n → length rest ≡ 0 → n ≡ value w
+got_end w [] n G h = G.is
+got_end w (b ∷ rest) n G h = absurd (omega arith)

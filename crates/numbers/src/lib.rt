@@ -7,20 +7,14 @@ ghost use Rattle.numbers.specs.Number.{low_first, value};
 // The bytes of a number.
 const BYTES: usize = 8;
 
-fn wide(b: u8) -> usize
-    ensures { result ≡ b }
-{
-    b as usize
-}
-
 // A number over all of a buffer: what does not fit is left out, and a longer buffer ends with zeros.
 pub fn put(n: usize, out: &mut [u8])
     ensures { out.new ≡ low_first (length out.old) n }
 {
     let mut left = n;
-    for i in 0..out.len() {
-        out[i] = (left % 256) as u8;
-        left = left / 256;
+    for b in out.iter_mut() {
+        *b = (left % 256) as u8;
+        left /= 256;
     }
 }
 
@@ -28,13 +22,10 @@ pub fn put(n: usize, out: &mut [u8])
 pub fn number_of(s: &[u8]) -> usize
     ensures { result ≡ value (take 8 s.now) }
 {
+    let front = &s[..BYTES.min(s.len())];
     let mut n: usize = 0;
-    let mut i: usize = BYTES;
-    while 0 < i {
-        i -= 1;
-        if i < s.len() {
-            n = n * 256 + wide(s[i]);
-        }
+    for &b in front.iter().rev() {
+        n = n * 256 + b as usize;
     }
     n
 }
