@@ -1,5 +1,5 @@
 -- What a walk tells where it ends. Assumes nothing.
-use Rattle.std.proofs.Common.{◌≡◌, refl, sym, ap, ◌∙◌, List, [], ◌∷◌, ℕ, ◌-◌, ◌≤◌, ◌<◌, length, get_or, take, max, arith}
+use Rattle.std.proofs.Common.{◌≡◌, sym, ap, ◌∙◌, List, [], ◌∷◌, ℕ, ◌-◌, ◌≤◌, ◌<◌, length, get_or, take, max, arith}
 use Rattle.form.specs.Scan.{Found, part, well, bad, scan}
 use Rattle.form.specs.Pattern.{bits}
 use Rattle.forms.specs.declared.Form.{Form}

@@ -1,16 +1,17 @@
 -- What stands at the front of a slice, as an item. Assumes nothing.
 use mathlib.Core.Path.{◌≡◌, refl, ap}
 use mathlib.Core.List.{List, [], ◌∷◌}
-use Prim.Native.Nat.{ℕ, suc, ◌<◌, max}
+use Prim.Native.Nat.{ℕ, suc, ◌<◌}
 use native.Mathlib.Omega.{arith}
 use lib.ListN.{length, get_or}
 use Rattle.form.specs.Table.{plain}
 use Rattle.form.specs.Scan.{Found, well, part, bad, scan}
-use Rattle.form.specs.Text.{stray, item, span, more}
-use Rattle.form.proofs.Items.{span_more}
-use Rattle.form.proofs.Utf8.{plain-regular}
+use Rattle.form.specs.Text.{stray, item}
 use Rattle.straight.specs.declared.Straight.{Straight}
 use Rattle.straight.specs.Straight.{straight_of}
+use Rattle.straight.proofs.Laws.{well-told}
+use Rattle.std.specs.Prelude.{Some, None}
+use Rattle.std.proofs.lemmas.Option.{none-some}
 use Rattle.forms.specs.declared.Form.TheVariants.{Plain}
 use Rattle.forms.proofs.Forms.{form_ascii}
 use Rattle.front.specs.Front.{Told, told, told_of}
@@ -42,20 +43,20 @@ unfolding leaf_of
 by_front f [] h e = absurd (omega arith)
 by_front f (b ∷ t) h e = ap leaf (by_found f b t (scan plain (b ∷ t)) e)
 
+-- of no bytes
+pub leaf_none : (s : List ℕ) → length s ≡ 0 → ◌≡◌ {A = Leaf} (record { code = 0; span = 0; subpart = 0 }) (leaf_of s)
+unfolding leaf_of
+leaf_none [] e = refl
+leaf_none (b ∷ s) e = absurd (omega arith)
+
 -- ---- in a straight line
 
-abbrev sequence : Straight → Leaf
-sequence q = record { code = q.code; span = q.len; subpart = 0 }
-
-pub leaf_straight : (s : List ℕ) (q : Straight) → 0 < length s → q ≡ straight_of (scan plain s) → (q.len ≡ 0 → ⊥) → sequence q ≡ leaf_of s
+pub leaf_straight : (s : List ℕ) (q : Straight) → 0 < length s → Some q ≡ straight_of (scan plain s) → ◌≡◌ {A = Leaf} (record { code = q.code; span = q.len; subpart = 0 }) (leaf_of s)
 unfolding leaf_of
-leaf_straight [] q h e f = absurd (omega arith)
-leaf_straight (b ∷ s) q h e f = go (scan plain (b ∷ s)) e
-  where
-    go : (x : Found) → q ≡ straight_of x → sequence q ≡ leaf (item x b s)
-    go (well c n) p = ap sequence p
-    go part p = absurd (f (ap (λ (k : Straight). k.len) p))
-    go (bad n) p = absurd (f (ap (λ (k : Straight). k.len) p))
+leaf_straight [] q h e = absurd (omega arith)
+leaf_straight (b ∷ s) q h e =
+    let w = well-told (scan plain (b ∷ s)) q e in
+    rw w refl
 
 -- ---- the span alone
 
@@ -70,14 +71,19 @@ unfolding leaf_of
 span-ascii [] h l = absurd (omega arith)
 span-ascii (b ∷ s) h l = rw (form_ascii Plain b s l) refl
 
--- else it has the bytes of a sequence, or one
-pub span_straight : (s : List ℕ) → 0 < length s → max 1 (straight_of (scan plain s)).len ≡ (leaf_of s).span
+-- else it has the bytes of a sequence
+pub span_straight : (s : List ℕ) (q : Straight) → 0 < length s → Some q ≡ straight_of (scan plain s) → q.len ≡ (leaf_of s).span
+span_straight s q h e = ap (λ (r : Leaf). r.span) (leaf_straight s q h e)
+
+-- or one
+pub span_lost : (s : List ℕ) → 0 < length s → None ≡ straight_of (scan plain s) → 1 ≡ (leaf_of s).span
 unfolding leaf_of
-span_straight [] h = absurd (omega arith)
-span_straight (b ∷ s) h = go (scan plain (b ∷ s)) refl (span_more plain b s plain-regular.is_open)
+span_lost [] h e = absurd (omega arith)
+span_lost (b ∷ s) h e = go (scan plain (b ∷ s)) e
   where
-    go : (x : Found) → scan plain (b ∷ s) ≡ x → span (item (scan plain (b ∷ s)) b s) ≡ suc (more (item (scan plain (b ∷ s)) b s))
-        → max 1 (straight_of (scan plain (b ∷ s))).len ≡ (leaf (item (scan plain (b ∷ s)) b s)).span
-    go (well c n) e m = let k = rw e at m in rw e (omega (arith, k))
-    go part e m = rw e refl
-    go (bad n) e m = rw e refl
+    go : (x : Found) → None ≡ straight_of x → 1 ≡ (leaf (item x b s)).span
+    go (well c n) p = absurd (none-some _ p)
+    go part p = refl
+    go (bad n) p = refl
+
+pub ruleset spans = (span_none, span-ascii, span_straight, span_lost)

@@ -56,19 +56,18 @@ pub fn item_of(s: &[u8]) -> Leaf
             subpart: 0,
         };
     }
-    let q = straight::straight_of(Form::Plain, s);
-    if q.len != 0 {
-        return Leaf {
+    match straight::straight_of(Form::Plain, s) {
+        Some(q) => Leaf {
             code: q.code,
             span: q.len,
             subpart: 0,
-        };
+        },
+        None => of_front(front::front_of(Form::Plain, s), s[0]),
     }
-    let f = front::front_of(Form::Plain, s);
-    of_front(f, s[0])
 }
 
 // How many bytes that item takes, which a straight line tells: those of a well-formed sequence, or else one.
+#[tactic(auto, using(crate::proofs::Fronts::spans))]
 pub fn span_of(s: &[u8]) -> usize
     ensures { result ≡ (leaf_of s.now).span }
 {
@@ -78,9 +77,8 @@ pub fn span_of(s: &[u8]) -> usize
     if s[0] < 0x80 {
         return 1;
     }
-    let q = straight::straight_of(Form::Plain, s);
-    if q.len == 0 {
-        return 1;
+    match straight::straight_of(Form::Plain, s) {
+        Some(q) => q.len,
+        None => 1,
     }
-    q.len
 }

@@ -1,21 +1,20 @@
 -- What a straight line tells, for the loops that go by it. Assumes nothing.
 use mathlib.Core.Path.{◌≡◌, refl, sym, ap, ◌∙◌}
-use Rattle.std.specs.Prelude.{Option, Some, None}
+use Rattle.std.specs.Prelude.{Some, None}
 use Rattle.std.proofs.lemmas.Option.{same_Some, none-some}
 use mathlib.Core.Bool.{Bool, true, false}
 use mathlib.Core.List.{List, [], ◌∷◌, ◌++◌}
-use Prim.Native.Nat.{ℕ, zero, suc, ◌≤◌, ◌<◌}
+use Prim.Native.Nat.{ℕ, ◌≤◌, ◌<◌}
 use native.Mathlib.Omega.{arith}
 use lib.Dec.{T}
 use lib.ListN.{length, length-append}
 use Rattle.form.specs.Table as Table
 use Rattle.form.specs.Table.{Codes, plain, surro, cesu}
 use Rattle.form.specs.Scan.{Found, well, part, bad, scan, after}
-use Rattle.form.proofs.Scan.{scan-well, codes-nil}
 use Rattle.form.proofs.After.{resume}
 use Rattle.forms.specs.declared.Form.{Form}
 use Rattle.forms.specs.Forms.{rows_of}
-use Rattle.forms.proofs.Forms.{form_regular, form_scans, every_form}
+use Rattle.forms.proofs.Forms.{form_scans, every_form}
 use Rattle.straight.specs.declared.Straight.{Straight}
 use Rattle.straight.specs.Straight.{straight_of}
 use Rattle.straight.proofs.Shapes.{codes-pair}
@@ -36,7 +35,7 @@ stray-scan f b t h g =
     (0, (form_scans f).by_byte b t ∙ resume-none (after b (rows_of f)) t e)
 
 -- what is told is what is found
-well-told : (x : Found) (r : Straight) → Some r ≡ straight_of x → x ≡ well r.code r.len
+pub well-told : (x : Found) (r : Straight) → Some r ≡ straight_of x → x ≡ well r.code r.len
 well-told (well c n) r h = ap (λ (t : Straight). well t.code t.len) (sym (same_Some r (record { len = n; code = c }) h))
 well-told part r h = absurd (none-some r (sym h))
 well-told (bad n) r h = absurd (none-some r (sym h))

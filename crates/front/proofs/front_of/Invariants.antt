@@ -1,9 +1,5 @@
 -- The loop walks the stages: the bytes passed have led to the stage, whatever the form whose first stage it began with. Assumes nothing.
-use Rattle.std.proofs.Common.{◌≡◌, ◌-◌, ◌≤◌, get_or, length}
-use Rattle.form.specs.Scan.{after}
-use Rattle.forms.specs.declared.Form.{Form}
-use Rattle.forms.specs.Forms.{rows_of}
-use Rattle.classify.specs.Stage.{stage_of}
+use Rattle.std.proofs.Common.{◌-◌, ◌≤◌, length}
 use Rattle.classify.proofs.Walk.{Walked}
 use Rattle.front.proofs.front_of.Given as goal
 
