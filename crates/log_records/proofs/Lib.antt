@@ -1,3 +1,2 @@
-pub mod Walk
-pub mod Counting
+pub mod Every
 pub mod Laying

@@ -5,46 +5,26 @@ ghost use Rattle.std.specs.Prelude.{◌≡◌, ◌/◌, leb, length, take};
 ghost use Rattle.numbers.specs.Number.{laid_in, over};
 ghost use Rattle.log_index.specs.Index.{starts, every};
 
-// A record is for every so many codes, and between two that have one stand so many that have none.
-const EVERY: usize = 64;
-
-const BETWEEN: usize = 63;
+// A record is for every so many codes.
+pub const EVERY: usize = 64;
 
 // The bytes of a record.
-const RECORD: usize = 8;
+pub const RECORD: usize = 8;
 
 // How many records the codes from a place on have, the first of them after k codes.
 pub fn count_records(log: &[u8], from: usize, k: usize) -> usize
     ensures { result ≡ length (every k (starts log.now from)) }
 {
-    let mut at = from;
-    let mut left = k;
-    let mut count: usize = 0;
-    while at < log.len() {
-        let end = at + item::span_of(&log[at..]);
-        if 0 < left {
-            left -= 1;
-            at = end;
-            continue;
-        }
-        count += 1;
-        left = BETWEEN;
-        at = end;
-    }
-    count
+    walk::walk_from(log, from).skip(k).step_by(EVERY).count()
 }
 
 // Whether there are at most so many of them. Where the bytes that are left cannot have more, they are not read.
 pub fn are_few(log: &[u8], from: usize, k: usize, most: usize) -> bool
     ensures { result ≡ leb (length (every k (starts log.now from))) most }
 {
-    if log.len() <= from {
-        return true;
-    }
-    if (log.len() - from - 1) / EVERY < most {
-        return true;
-    }
-    count_records(log, from, k) <= most
+    log.len() <= from
+        || (log.len() - from - 1) / EVERY < most
+        || count_records(log, from, k) <= most
 }
 
 // Those records at the front of a buffer, as many as it has room for; answers how many.
@@ -52,25 +32,12 @@ pub fn lay_records(log: &[u8], from: usize, k: usize, out: &mut [u8]) -> usize
     ensures answer { result ≡ length (take (length out.old / 8) (every k (starts log.now from))) }
     ensures output { out.new ≡ over (laid_in 8 (take (length out.old / 8) (every k (starts log.now from)))) out.old }
 {
-    let mut at = from;
-    let mut left = k;
-    let mut n: usize = 0;
-    while at < log.len() {
-        let end = at + item::span_of(&log[at..]);
-        if 0 < left {
-            left -= 1;
-            at = end;
-            continue;
-        }
-        if out.len() / RECORD <= n {
-            return n;
-        }
+    let room = out.len() / RECORD;
+    let mut n = 0;
+    for item in walk::walk_from(log, from).skip(k).step_by(EVERY).take(room) {
         let first = n * RECORD;
-        let last = first + RECORD;
-        numbers::put(at, &mut out[first..last]);
+        numbers::put(item.start, &mut out[first..first + RECORD]);
         n += 1;
-        left = BETWEEN;
-        at = end;
     }
     n
 }

@@ -1,3 +1,2 @@
-pub mod Tests
-pub mod Resuming
+pub mod Standing
 pub mod Assembled

@@ -1,2 +1,2 @@
 pub mod Resumption
-pub mod Answer
+pub mod Refusal

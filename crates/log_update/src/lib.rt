@@ -1,109 +1,85 @@
 // Building the index of a log, and updating it after an append.
 #![tactic(auto)]
 
-ghost use Rattle.std.specs.Prelude.{◌≡◌, ◌+◌, ◌*◌, ◌≤◌, ltb, length};
+ghost use Rattle.std.specs.Prelude.{◌≡◌, ◌-◌, ◌*◌, ◌≤◌, length, MatchResult};
 ghost use Rattle.numbers.specs.Number.{values_in, over};
 ghost use Rattle.log_index.specs.Update.{standing, building, updating};
-ghost use Rattle.log_update.specs.Resumption.{resume_of, skip_of};
-ghost use Rattle.log_update.specs.Answer.{indexed_of};
+ghost use Rattle.log_update.specs.Resumption.{last_of, skip_of};
+ghost use Rattle.log_update.specs.Refusal.{number_of};
 
-// The bytes of a record.
-const RECORD: usize = 8;
+use log_records::{EVERY, RECORD};
 
-// Number 0 and how many records the index has; or 1 or 15, and 0.
-#[derive(Clone, Copy)]
-pub struct Indexed {
-    pub number: u8,
-    pub records: usize,
+// The records do not fit; or an old length or old records that are not there.
+#[derive(Clone, Copy, Debug, PartialEq, Eq)]
+pub enum Refusal {
+    NoRoom,
+    Outside,
 }
 
-// How many records stand, and the last of them, else 0.
-#[derive(Clone, Copy)]
-struct Resume {
-    count: usize,
-    place: usize,
-}
+// The number that C knows it by.
+impl From<Refusal> for u32 {
+    ghost from_gives = { λ refusal n. n ≡ number_of refusal };
 
-// The place is more than three bytes before the old end.
-fn is_standing(p: usize, n: usize) -> bool
-    ensures { result ≡ ltb (p + 3) n }
-{
-    if n < 3 {
-        return false;
-    }
-    p < n - 3
-}
-
-// How many codes have no record before the next that has one.
-fn skip_of(count: usize) -> usize
-    ensures { result ≡ skip_of count }
-{
-    if count == 0 { 0 } else { 64 }
-}
-
-// Of the first `old` records, those that stand.
-fn resume_of(index: &[u8], old: usize, n: usize) -> Resume
-    requires { old * 8 ≤ length index.now }
-    ensures { result ≡ resume_of (standing n (values_in 8 old index.now)) }
-{
-    let mut count: usize = 0;
-    let mut place: usize = 0;
-    while count < old {
-        let first = count * RECORD;
-        let p = numbers::number_of(&index[first..]);
-        if is_standing(p, n) {
-            count += 1;
-            place = p;
-            continue;
+    fn from(refusal: Refusal) -> u32 {
+        match refusal {
+            Refusal::NoRoom => 1,
+            Refusal::Outside => 15,
         }
-        return Resume {
-            count: count,
-            place: place,
-        };
-    }
-    Resume {
-        count: count,
-        place: place,
     }
 }
 
-// The index of a log after an append: `was` is the old length, and `old` how many records the index has of the old log.
-pub fn update(log: &[u8], was: usize, index: &mut [u8], old: usize) -> Indexed
-    ensures answer { result ≡ indexed_of (updating log.now was index.old old) }
+// How many of the first `old` records stand: their places are more than three bytes before the old end.
+fn count_standing(index: &[u8], old: usize, was: usize) -> usize
+    requires { old * 8 ≤ length index.now }
+    ensures count { result ≡ length (standing was (values_in 8 old index.now)) }
+    ensures few { result ≤ old }
+{
+    index
+        .chunks_exact(RECORD)
+        .take(old)
+        .take_while(|record| numbers::number_of(record) < was.saturating_sub(3))
+        .count()
+}
+
+// Where the walk goes on after so many records, and how many codes it passes over: the last record stands, and the next is for the code
+// 64 further on.
+fn resume_after(index: &[u8], count: usize) -> (usize, usize)
+    requires { count * 8 ≤ length index.now }
+    ensures place { result.0 ≡ last_of 0 (values_in 8 count index.now) }
+    ensures skip { result.1 ≡ skip_of count }
+{
+    match count.checked_sub(1) {
+        Some(last) => (numbers::number_of(&index[last * RECORD..]), EVERY),
+        None => (0, 0),
+    }
+}
+
+// The index of a log after an append: `was` is the old length, and `old` how many records the index has of the old log. Answers how many
+// it has then.
+pub fn update(log: &[u8], was: usize, index: &mut [u8], old: usize) -> Result<usize, Refusal>
+    ensures answer { MatchResult result
+        (λ n. ((updating log.now was index.old old).number ≡ 0) × ((updating log.now was index.old old).records ≡ n))
+        (λ refusal. (updating log.now was index.old old).number ≡ number_of refusal) }
     ensures output { index.new ≡ over (updating log.now was index.old old).bytes index.old }
 {
     let room = index.len() / RECORD;
-    if log.len() < was {
-        return Indexed {
-            number: 15,
-            records: 0,
-        };
+    if log.len() < was || room < old {
+        return Err(Refusal::Outside);
     }
-    if room < old {
-        return Indexed {
-            number: 15,
-            records: 0,
-        };
+    let count = count_standing(index, old, was);
+    let (place, skip) = resume_after(index, count);
+    if !log_records::are_few(log, place, skip, room - count) {
+        return Err(Refusal::NoRoom);
     }
-    let r = resume_of(index, old, was);
-    let skip = skip_of(r.count);
-    if log_records::are_few(log, r.place, skip, room - r.count) {
-        let first = r.count * RECORD;
-        let n = log_records::lay_records(log, r.place, skip, &mut index[first..]);
-        return Indexed {
-            number: 0,
-            records: r.count + n,
-        };
-    }
-    Indexed {
-        number: 1,
-        records: 0,
-    }
+    let laid = log_records::lay_records(log, place, skip, &mut index[count * RECORD..]);
+    Ok(count + laid)
 }
 
 // The index of a log.
-pub fn build(log: &[u8], index: &mut [u8]) -> Indexed
-    ensures answer { result ≡ indexed_of (building log.now (length index.old)) }
+pub fn build(log: &[u8], index: &mut [u8]) -> Result<usize, Refusal>
+    ensures answer { MatchResult result
+        (λ n. ((building log.now (length index.old)).number ≡ 0) × ((building log.now (length index.old)).records ≡ n))
+        (λ refusal. (building log.now (length index.old)).number ≡ number_of refusal) }
     ensures output { index.new ≡ over (building log.now (length index.old)).bytes index.old }
 {
     update(log, 0, index, 0)

@@ -10,23 +10,20 @@ ghost use Rattle.log_index.specs.Index.{finding, records};
 ghost use Rattle.log_index.specs.Update.{building, updating};
 ghost use Rattle.utf8b_index.specs.Entry.{placed, found, covered, told, indexed, filled};
 
-fn wide(number: u8) -> u32
-    ensures { result ≡ number }
-{
-    number as u32
-}
+use log_update::Refusal;
 
 // The index of a log: 0 or 1.
 #[unsafe(no_mangle)]
 pub extern "C" fn utf8b_index_build(log: &[u8], index: &mut [u8], records: &mut usize) -> u32
     ensures { indexed result index.new records.new ≡ filled (building log.now (length index.old)) index.old records.old }
 {
-    let b = log_update::build(log, index);
-    if b.number == 0 {
-        *records = b.records;
-        return 0;
+    match log_update::build(log, index) {
+        Ok(built) => {
+            *records = built;
+            0
+        }
+        Err(refusal) => refusal.into(),
     }
-    wide(b.number)
 }
 
 // The place of code k: 0 or 15.
@@ -34,12 +31,13 @@ pub extern "C" fn utf8b_index_build(log: &[u8], index: &mut [u8], records: &mut 
 pub extern "C" fn utf8b_index_find(log: &[u8], index: &[u8], k: usize, place: &mut usize) -> u32
     ensures { placed result place.new ≡ found (finding log.now (records index.now) k) place.old }
 {
-    let f = log_find::find(log, index, k);
-    if f.number == 0 {
-        *place = f.place;
-        return 0;
+    match log_find::find(log, index, k) {
+        Some(at) => {
+            *place = at;
+            0
+        }
+        None => Refusal::Outside.into(),
     }
-    wide(f.number)
 }
 
 // The item that covers byte p: 0 or 15.
@@ -53,14 +51,15 @@ pub extern "C" fn utf8b_index_cover(
 ) -> u32
     ensures { told result start.new len.new code.new ≡ covered (covering 0 (items plain 0 log.now) p) start.old len.old code.old }
 {
-    let c = cover::cover(log, p);
-    if c.number == 0 {
-        *start = c.start;
-        *len = c.len;
-        *code = c.code;
-        return 0;
+    match cover::cover(log, p) {
+        Some(c) => {
+            *start = c.start;
+            *len = c.len;
+            *code = c.code;
+            0
+        }
+        None => Refusal::Outside.into(),
     }
-    wide(c.number)
 }
 
 // The index of a log after an append, by its old length and its old records: 0, 1 or 15.
@@ -74,10 +73,11 @@ pub extern "C" fn utf8b_index_update(
 ) -> u32
     ensures { indexed result index.new records.new ≡ filled (updating log.now was index.old old) index.old records.old }
 {
-    let u = log_update::update(log, was, index, old);
-    if u.number == 0 {
-        *records = u.records;
-        return 0;
+    match log_update::update(log, was, index, old) {
+        Ok(updated) => {
+            *records = updated;
+            0
+        }
+        Err(refusal) => refusal.into(),
     }
-    wide(u.number)
 }
