@@ -8,6 +8,7 @@
 
 ghost use Rattle.std.specs.Prelude.{◌≡◌, ◌≢◌, ℕ, ◌<◌, ◌≤◌, length, slice_index};
 
+use reason::Reason;
 use std::env::{Env, FillError};
 use std::fs::File;
 use std::io;
@@ -189,21 +190,21 @@ fn put_codes(rt: &HostRuntime, n: usize, s: &[u8], from: usize, end: usize, out:
     waiting
 }
 
-// The end of a line that tells the reason of a bad place, 1 to 8, in the words of the header for C.
-fn put_reason(rt: &HostRuntime, n: usize, reason: u8, out: &mut [u8]) -> usize {
+// The end of a line that tells the reason of a bad place, in the words of the header for C.
+fn put_reason(rt: &HostRuntime, n: usize, reason: Reason, out: &mut [u8]) -> usize {
     match reason {
-        reason::LONE => put_words(
+        Reason::Lone => put_words(
             rt,
             n,
             b": a continuation byte with nothing to continue\n",
             out,
         ),
-        reason::NEVER => put_words(rt, n, b": C0 and C1 begin no sequence\n", out),
-        reason::BEYOND => put_words(rt, n, b": F5 to FF begin no sequence\n", out),
-        reason::TOO_LONG => put_words(rt, n, b": too long a form of its code\n", out),
-        reason::SURROGATE => put_words(rt, n, b": a surrogate, D800 to DFFF\n", out),
-        reason::TOO_HIGH => put_words(rt, n, b": above 10FFFF, the last code\n", out),
-        reason::CUT_SHORT => put_words(rt, n, b": no continuation byte follows\n", out),
+        Reason::Never => put_words(rt, n, b": C0 and C1 begin no sequence\n", out),
+        Reason::Beyond => put_words(rt, n, b": F5 to FF begin no sequence\n", out),
+        Reason::TooLong => put_words(rt, n, b": too long a form of its code\n", out),
+        Reason::Surrogate => put_words(rt, n, b": a surrogate, D800 to DFFF\n", out),
+        Reason::TooHigh => put_words(rt, n, b": above 10FFFF, the last code\n", out),
+        Reason::CutShort => put_words(rt, n, b": no continuation byte follows\n", out),
         _ => put_words(rt, n, b": the end of the input cuts it off\n", out),
     }
 }
