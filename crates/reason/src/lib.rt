@@ -8,18 +8,28 @@ use forms::Form;
 use front::Front;
 use std::fmt;
 
-// With the numbers of request C-14; docs/RULES.md, "Why bytes are bad", has what each says.
+// With the numbers of request C-14; docs/RULES.md, "Why bytes are bad", has the bytes of each.
 #[derive(Clone, Copy, Debug, PartialEq, Eq)]
 pub enum Reason {
+    // None: a well-formed sequence starts there.
     Good = 0,
+    // A lone 80..BF.
     Lone = 1,
+    // C0 or C1.
     Never = 2,
+    // F5..FF.
     Beyond = 3,
+    // Too long a form: E0 then 80..9F, F0 then 80..8F.
     TooLong = 4,
+    // ED then A0..BF.
     Surrogate = 5,
+    // F4 then 90..BF.
     TooHigh = 6,
+    // A byte that is not 80..BF where a continuation was due.
     CutShort = 7,
+    // The end, where a continuation was due.
     Unfinished = 8,
+    // No byte.
     AtEnd = 9,
 }
 
