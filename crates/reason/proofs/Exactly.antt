@@ -10,7 +10,9 @@ use Rattle.form.specs.Scan.{Found, well, part, bad, scan}
 use Rattle.form.specs.Text.{Bytes}
 use Rattle.form.proofs.Scan.{well-scan}
 use Rattle.form.proofs.Utf8.{plain-regular, plain-scans}
-use Rattle.reason.specs.Reason.{Reason, good, lone, never, beyond, too_long, surrogate, too_high, cut_short, unfinished, at_end, Opens, Holds, signs, first_sign, judged, by_found, reason}
+use Rattle.reason.specs.Reason.{Opens, Holds, signs, first_sign, judged, by_found, reason}
+use Rattle.reason.specs.declared.Reason.{Reason}
+use Rattle.reason.specs.declared.Reason.TheVariants.{Good, Lone, Never, Beyond, TooLong, Surrogate, TooHigh, CutShort, Unfinished, AtEnd}
 use Rattle.reason.specs.Request.{Exactly}
 use Rattle.reason.proofs.Signs.{Among, None, none_first, first_among, among_first}
 use Rattle.reason.proofs.Found.{cut-bad, finds}
@@ -47,37 +49,37 @@ module _ (a : ℕ) (w : List ℕ) (b : ℕ) (z : List ℕ) (p : Partial plain (a
       go [] q (c ∷ d ∷ v, z, f, k) = n (omega (arith, head-eq_of_cons-eq (tail-eq_of_cons-eq f), k.1.0), omega (arith, head-eq_of_cons-eq (tail-eq_of_cons-eq f), k.1.0))
 
   cut-none : None signs s
-  cut-none r (inl (e, h)) = first-shut (finds lone s h)
-  cut-none r (inr (inl (e, h))) = first-shut (finds never s h)
-  cut-none r (inr (inr (inl (e, h)))) = first-shut (finds beyond s h)
-  cut-none r (inr (inr (inr (inl (e, h))))) = pair-shut 0xE0 0x80 0x9F (omega arith) (omega arith) h (finds too_long s (inl h))
-  cut-none r (inr (inr (inr (inr (inl (e, h)))))) = pair-shut 0xF0 0x80 0x8F (omega arith) (omega arith) h (finds too_long s (inr h))
-  cut-none r (inr (inr (inr (inr (inr (inl (e, h))))))) = pair-shut 0xED 0xA0 0xBF (omega arith) (omega arith) h (finds surrogate s h)
-  cut-none r (inr (inr (inr (inr (inr (inr (inl (e, h)))))))) = pair-shut 0xF4 0x90 0xBF (omega arith) (omega arith) h (finds too_high s h)
+  cut-none r (inl (e, h)) = first-shut (finds Lone s h)
+  cut-none r (inr (inl (e, h))) = first-shut (finds Never s h)
+  cut-none r (inr (inr (inl (e, h)))) = first-shut (finds Beyond s h)
+  cut-none r (inr (inr (inr (inl (e, h))))) = pair-shut 0xE0 0x80 0x9F (omega arith) (omega arith) h (finds TooLong s (inl h))
+  cut-none r (inr (inr (inr (inr (inl (e, h)))))) = pair-shut 0xF0 0x80 0x8F (omega arith) (omega arith) h (finds TooLong s (inr h))
+  cut-none r (inr (inr (inr (inr (inr (inl (e, h))))))) = pair-shut 0xED 0xA0 0xBF (omega arith) (omega arith) h (finds Surrogate s h)
+  cut-none r (inr (inr (inr (inr (inr (inr (inl (e, h)))))))) = pair-shut 0xF4 0x90 0xBF (omega arith) (omega arith) h (finds TooHigh s h)
   cut-none r (inr (inr (inr (inr (inr (inr (inr h))))))) = h
 
-  is_cut : Given cut_short s
+  is_cut : Given CutShort s
   unfolding judged
   is_cut = rw (cut-bad a w b z p n) (sym (none_first signs s cut-none))
 
-pub at_none : Given at_end []
+pub at_none : Given AtEnd []
 unfolding plain
 at_none = refl
 
 given : (r : Reason) (s : List ℕ) → Holds r s → Given r s
-given good s (w, z, e, (c, h)) = rw (ap (scan plain) e ∙ well-scan plain w z c plain-regular.is_distinct h) refl
-given lone s h = signed lone s 0 (finds lone s h) (inl (refl, h))
-given never s h = signed never s 0 (finds never s h) (inr (inl (refl, h)))
-given beyond s h = signed beyond s 0 (finds beyond s h) (inr (inr (inl (refl, h))))
-given too_long s (inl h) = signed too_long s 1 (finds too_long s (inl h)) (inr (inr (inr (inl (refl, h)))))
-given too_long s (inr h) = signed too_long s 1 (finds too_long s (inr h)) (inr (inr (inr (inr (inl (refl, h))))))
-given surrogate s h = signed surrogate s 1 (finds surrogate s h) (inr (inr (inr (inr (inr (inl (refl, h)))))))
-given too_high s h = signed too_high s 1 (finds too_high s h) (inr (inr (inr (inr (inr (inr (inl (refl, h))))))))
-given cut_short s ([], b, z, e, p, n) = absurd (omega (arith, p.0))
-given cut_short s (a ∷ w, b, z, e, p, n) = subst (Given cut_short) (sym e) (is_cut a w b z p n)
-given unfinished [] p = absurd (omega (arith, p.0))
-given unfinished (b ∷ s) p = rw ((plain-scans.finds_part (b ∷ s) (omega arith)).1 p) refl
-given at_end s e = subst (Given at_end) (sym e) at_none
+given Good s (w, z, e, (c, h)) = rw (ap (scan plain) e ∙ well-scan plain w z c plain-regular.is_distinct h) refl
+given Lone s h = signed Lone s 0 (finds Lone s h) (inl (refl, h))
+given Never s h = signed Never s 0 (finds Never s h) (inr (inl (refl, h)))
+given Beyond s h = signed Beyond s 0 (finds Beyond s h) (inr (inr (inl (refl, h))))
+given TooLong s (inl h) = signed TooLong s 1 (finds TooLong s (inl h)) (inr (inr (inr (inl (refl, h)))))
+given TooLong s (inr h) = signed TooLong s 1 (finds TooLong s (inr h)) (inr (inr (inr (inr (inl (refl, h))))))
+given Surrogate s h = signed Surrogate s 1 (finds Surrogate s h) (inr (inr (inr (inr (inr (inl (refl, h)))))))
+given TooHigh s h = signed TooHigh s 1 (finds TooHigh s h) (inr (inr (inr (inr (inr (inr (inl (refl, h))))))))
+given CutShort s ([], b, z, e, p, n) = absurd (omega (arith, p.0))
+given CutShort s (a ∷ w, b, z, e, p, n) = subst (Given CutShort) (sym e) (is_cut a w b z p n)
+given Unfinished [] p = absurd (omega (arith, p.0))
+given Unfinished (b ∷ s) p = rw ((plain-scans.finds_part (b ∷ s) (omega arith)).1 p) refl
+given AtEnd s e = subst (Given AtEnd) (sym e) at_none
 
 -- ---- and the one that is given holds
 

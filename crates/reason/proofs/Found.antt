@@ -17,7 +17,9 @@ use Rattle.form.proofs.Rows.{fits-length}
 use Rattle.form.proofs.Scan.{clear_absurd}
 use Rattle.form.proofs.EncodingForms.{later_in}
 use Rattle.form.proofs.Utf8.{plain-scans}
-use Rattle.reason.specs.Reason.{Reason, good, lone, never, beyond, too_long, surrogate, too_high, cut_short, unfinished, at_end, Opens, Holds}
+use Rattle.reason.specs.Reason.{Opens, Holds}
+use Rattle.reason.specs.declared.Reason.{Reason}
+use Rattle.reason.specs.declared.Reason.TheVariants.{Good, Lone, Never, Beyond, TooLong, Surrogate, TooHigh, CutShort, Unfinished, AtEnd}
 
 -- ---- a sign whose bytes but the last begin a sequence
 
@@ -97,30 +99,30 @@ cut-bad a w b z p n =
 -- ---- each reason
 
 abbrev pub Finds : Reason → List ℕ → Type 0
-Finds good s = Unit {0}
-Finds lone s = scan plain s ≡ bad 0
-Finds never s = scan plain s ≡ bad 0
-Finds beyond s = scan plain s ≡ bad 0
-Finds too_long s = scan plain s ≡ bad 1
-Finds surrogate s = scan plain s ≡ bad 1
-Finds too_high s = scan plain s ≡ bad 1
-Finds cut_short s = (n : ℕ) × (1 ≤ n) × (scan plain s ≡ bad n) × (In tail (get_or s n 0) → ⊥)
-Finds unfinished s = Partial plain s
-Finds at_end s = Unit {0}
+Finds Good s = Unit {0}
+Finds Lone s = scan plain s ≡ bad 0
+Finds Never s = scan plain s ≡ bad 0
+Finds Beyond s = scan plain s ≡ bad 0
+Finds TooLong s = scan plain s ≡ bad 1
+Finds Surrogate s = scan plain s ≡ bad 1
+Finds TooHigh s = scan plain s ≡ bad 1
+Finds CutShort s = (n : ℕ) × (1 ≤ n) × (scan plain s ≡ bad n) × (In tail (get_or s n 0) → ⊥)
+Finds Unfinished s = Partial plain s
+Finds AtEnd s = Unit {0}
 
 pub finds : (r : Reason) (s : List ℕ) → Holds r s → Finds r s
 unfolding plain
-finds good s h = tt
-finds lone s h = first_bad (0x80 to 0xBF) s tt h
-finds never s h = first_bad (0xC0 to 0xC1) s tt h
-finds beyond s h = first_bad (0xF5 to 0xFF) s tt h
-finds too_long s (inl h) = pair-bad 0xE0 (0x80 to 0x9F) s tt refl h
-finds too_long s (inr h) = pair-bad 0xF0 (0x80 to 0x8F) s tt refl h
-finds surrogate s h = pair-bad 0xED (0xA0 to 0xBF) s tt refl h
-finds too_high s h = pair-bad 0xF4 (0x90 to 0xBF) s tt refl h
-finds cut_short s ([], b, z, e, p, n) = absurd (omega (arith, p.0))
-finds cut_short s (a ∷ w, b, z, e, p, n) =
-    subst (Finds cut_short) (sym e)
+finds Good s h = tt
+finds Lone s h = first_bad (0x80 to 0xBF) s tt h
+finds Never s h = first_bad (0xC0 to 0xC1) s tt h
+finds Beyond s h = first_bad (0xF5 to 0xFF) s tt h
+finds TooLong s (inl h) = pair-bad 0xE0 (0x80 to 0x9F) s tt refl h
+finds TooLong s (inr h) = pair-bad 0xF0 (0x80 to 0x8F) s tt refl h
+finds Surrogate s h = pair-bad 0xED (0xA0 to 0xBF) s tt refl h
+finds TooHigh s h = pair-bad 0xF4 (0x90 to 0xBF) s tt refl h
+finds CutShort s ([], b, z, e, p, n) = absurd (omega (arith, p.0))
+finds CutShort s (a ∷ w, b, z, e, p, n) =
+    subst (Finds CutShort) (sym e)
     (suc (length w), omega arith, cut-bad a w b z p n, λ t. n (subst (In tail) (get_or-append_seam (a ∷ w) b z 0) t))
-finds unfinished s h = h
-finds at_end s h = tt
+finds Unfinished s h = h
+finds AtEnd s h = tt

@@ -1,4 +1,5 @@
 pub mod Signs
+pub mod Judged
 pub mod Found
 pub mod Signless
 pub mod Exactly

@@ -13,7 +13,9 @@ use Rattle.form.specs.Text.{Bytes}
 use Rattle.form.proofs.Scan.{well-scan}
 use Rattle.form.proofs.Subparts.{subpart-only, bad-subpart, subpart-short, subpart-partial}
 use Rattle.form.proofs.Utf8.{plain-regular, plain-scans}
-use Rattle.reason.specs.Reason.{Reason, good, lone, never, beyond, too_long, surrogate, too_high, cut_short, unfinished, at_end, number, Holds, reason}
+use Rattle.reason.specs.Reason.{number, Holds, reason}
+use Rattle.reason.specs.declared.Reason.{Reason}
+use Rattle.reason.specs.declared.Reason.TheVariants.{Good, Lone, Never, Beyond, TooLong, Surrogate, TooHigh, CutShort, Unfinished, AtEnd}
 use Rattle.reason.specs.Request.{LeavesNone, Judged, Request}
 use Rattle.reason.proofs.Found.{Finds, finds}
 use Rattle.reason.proofs.Exactly.{exactly}
@@ -24,37 +26,37 @@ bad_leaves_none s k e =
     record { inside = l.inside; begins = l.begun; ends = l.longest (suc k) (omega arith) }
 
 judged-by : (r : Reason) (s : List ℕ) → Finds r s → Judged r s
-judged-by good s h = tt
-judged-by lone s h = bad_leaves_none s 0 h
-judged-by never s h = bad_leaves_none s 0 h
-judged-by beyond s h = bad_leaves_none s 0 h
-judged-by too_long s h = bad_leaves_none s 1 h
-judged-by surrogate s h = bad_leaves_none s 1 h
-judged-by too_high s h = bad_leaves_none s 1 h
-judged-by cut_short s (n, l, e, t) = (n, l, bad_leaves_none s n e, t)
-judged-by unfinished s (l, (t, g, w)) = (t, w)
-judged-by at_end s h = tt
+judged-by Good s h = tt
+judged-by Lone s h = bad_leaves_none s 0 h
+judged-by Never s h = bad_leaves_none s 0 h
+judged-by Beyond s h = bad_leaves_none s 0 h
+judged-by TooLong s h = bad_leaves_none s 1 h
+judged-by Surrogate s h = bad_leaves_none s 1 h
+judged-by TooHigh s h = bad_leaves_none s 1 h
+judged-by CutShort s (n, l, e, t) = (n, l, bad_leaves_none s n e, t)
+judged-by Unfinished s (l, (t, g, w)) = (t, w)
+judged-by AtEnd s h = tt
 
 -- ---- by kind, as all but the place of judging needs
 
 data Kind (r : Reason) (s : List ℕ) : Type 0 where
-  is_good : number r ≡ 0 → Holds good s → Kind r s
+  is_good : number r ≡ 0 → Holds Good s → Kind r s
   is_sign : (k : ℕ) → 1 ≤ number r → number r ≤ 6 → k ≤ 1 → scan plain s ≡ bad k → Kind r s
   is_cut_short : (k : ℕ) → number r ≡ 7 → scan plain s ≡ bad k → Kind r s
   is_unfinished : number r ≡ 8 → Partial plain s → Kind r s
   is_at_end : number r ≡ 9 → s ≡ [] → Kind r s
 
 kind : (r : Reason) (s : List ℕ) → Holds r s → Kind r s
-kind good s h = is_good refl h
-kind lone s h = is_sign 0 (omega arith) (omega arith) (omega arith) (finds lone s h)
-kind never s h = is_sign 0 (omega arith) (omega arith) (omega arith) (finds never s h)
-kind beyond s h = is_sign 0 (omega arith) (omega arith) (omega arith) (finds beyond s h)
-kind too_long s h = is_sign 1 (omega arith) (omega arith) (omega arith) (finds too_long s h)
-kind surrogate s h = is_sign 1 (omega arith) (omega arith) (omega arith) (finds surrogate s h)
-kind too_high s h = is_sign 1 (omega arith) (omega arith) (omega arith) (finds too_high s h)
-kind cut_short s h = let (n, l, e, t) = finds cut_short s h in is_cut_short n refl e
-kind unfinished s h = is_unfinished refl h
-kind at_end s h = is_at_end refl h
+kind Good s h = is_good refl h
+kind Lone s h = is_sign 0 (omega arith) (omega arith) (omega arith) (finds Lone s h)
+kind Never s h = is_sign 0 (omega arith) (omega arith) (omega arith) (finds Never s h)
+kind Beyond s h = is_sign 0 (omega arith) (omega arith) (omega arith) (finds Beyond s h)
+kind TooLong s h = is_sign 1 (omega arith) (omega arith) (omega arith) (finds TooLong s h)
+kind Surrogate s h = is_sign 1 (omega arith) (omega arith) (omega arith) (finds Surrogate s h)
+kind TooHigh s h = is_sign 1 (omega arith) (omega arith) (omega arith) (finds TooHigh s h)
+kind CutShort s h = let (n, l, e, t) = finds CutShort s h in is_cut_short n refl e
+kind Unfinished s h = is_unfinished refl h
+kind AtEnd s h = is_at_end refl h
 
 -- at a place, of the reason that is given
 given-kind : (s : List ℕ) (place : ℕ) → Bytes s → Kind (reason s place) (drop place s)
@@ -88,7 +90,7 @@ ended r s (is_unfinished i h) g = absurd (omega arith)
 past_end : (s : List ℕ) (place : ℕ) → Bytes s → (number (reason s place) ≡ 9) ↔ (length s ≤ place)
 past_end s place b = (
   λ e. omega (arith, length-drop place s, ap length (ended (reason s place) (drop place s) (given-kind s place b) e)),
-  λ h. ap number (sym ((exactly s place b).only at_end (drop_of_length-le s h))),
+  λ h. ap number (sym ((exactly s place b).only AtEnd (drop_of_length-le s h))),
 )
 
 -- ---- bad places

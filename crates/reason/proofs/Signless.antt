@@ -18,7 +18,9 @@ use Rattle.form.proofs.After.{grow, resume}
 use Rattle.form.proofs.Between.{between, between-at}
 use Rattle.form.proofs.Bad.{Longest}
 use Rattle.form.proofs.Utf8.{plain-scans}
-use Rattle.reason.specs.Reason.{Reason, cut_short, number, Holds, signs, first_sign}
+use Rattle.reason.specs.Reason.{number, Holds, signs, first_sign}
+use Rattle.reason.specs.declared.Reason.{Reason}
+use Rattle.reason.specs.declared.Reason.TheVariants.{CutShort}
 use Rattle.reason.proofs.Signs.{None, among_more, none_first}
 
 zero≠one : {A : Type 0} → ◌≡◌ {A = ℕ} 0 1 → A
@@ -28,7 +30,7 @@ abbrev signless : Reason → Bool
 signless r = eqb (number r) 7
 
 -- of the first bytes alone the same is given
-no_sign : (s t : List ℕ) → None signs (s ++ t) → first_sign signs s ≡ cut_short
+no_sign : (s t : List ℕ) → None signs (s ++ t) → first_sign signs s ≡ CutShort
 no_sign s t n = none_first signs s (λ r h. n r (among_more signs r s t h))
 
 -- a byte begins a sequence or is a sign
@@ -147,12 +149,12 @@ third_out x y s n e t = go (begun-partial (x ∷ y ∷ s) (suc (suc n)) (omega a
         let i : take n s ++ c ∷ u ≡ take (suc n) s ++ u = sym (ap (λ (v : List ℕ). v ++ u) more ∙ append_assoc (take n s) (c ∷ []) u) in
         h.longest (suc (suc (suc n))) (omega arith) (u, subst (λ (v : List ℕ). WellFormed plain (x ∷ y ∷ v)) i f)
 
-is_cut_short : (s : List ℕ) (n : ℕ) → 0 < n → scan plain s ≡ bad n → (In tail (get_or s n 0) → ⊥) → Holds cut_short s
+is_cut_short : (s : List ℕ) (n : ℕ) → 0 < n → scan plain s ≡ bad n → (In tail (get_or s n 0) → ⊥) → Holds CutShort s
 is_cut_short s n l e g =
     let i = ((plain-scans.finds_bad s n).0 e).1.inside in
     (take n s, get_or s n 0, drop (suc n) s, split_at s n 0 i, begun-partial s n l e, g)
 
-pub unsigned : (s : List ℕ) (n : ℕ) → Bytes s → scan plain s ≡ bad n → None signs s → Holds cut_short s
+pub unsigned : (s : List ℕ) (n : ℕ) → Bytes s → scan plain s ≡ bad n → None signs s → Holds CutShort s
 unsigned [] n b e o = absurd (omega (arith, ((plain-scans.finds_bad [] n).0 e).1.inside))
 unsigned (a ∷ s) zero b e o = absurd (first_signed a s b.0 e o)
 unsigned (a ∷ []) (suc n) b e o = absurd (omega (arith, ((plain-scans.finds_bad (a ∷ []) (suc n)).0 e).1.inside))

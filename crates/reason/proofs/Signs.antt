@@ -3,16 +3,18 @@ use mathlib.Core.Path.{◌≡◌, refl, sym, ap, ◌∙◌}
 use mathlib.Core.Logic.{◌⊎◌, inl, inr}
 use mathlib.Core.Bool.{Bool, true, false, ◌&&◌, cond}
 use mathlib.Core.List.{List, [], ◌∷◌, ◌++◌, append_assoc}
-use Prim.Native.Nat.{ℕ, ◌+◌, ◌<◌}
+use Prim.Native.Nat.{ℕ, ◌+◌}
 use native.Mathlib.Omega.{arith}
 use lib.Dec.{T}
-use lib.ListN.{length, take, drop, get_or, take-append-drop, length-append}
-use Rattle.form.specs.Table.{Range, ◌to◌, row, Form, index, Codes}
-use Rattle.form.specs.Scan.{in?, Fit, whole, short, stops, go_on, fit}
+use lib.ListN.{length, take, drop, take-append-drop}
+use Rattle.form.specs.Table.{Range, row, Form, index, Codes}
+use Rattle.form.specs.Scan.{Fit, whole, short, stops, fit}
 use Rattle.form.proofs.Tests.{clear}
-use Rattle.form.proofs.Rows.{both, true_in, false_in, fit-whole, whole-fit, fits-length}
+use Rattle.form.proofs.Rows.{both, fit-whole, whole-fit}
 use Rattle.form.proofs.Scan.{clear_absurd}
-use Rattle.reason.specs.Reason.{Reason, cut_short, Opens, Sign, sign, whole?, opens?, first_sign}
+use Rattle.reason.specs.Reason.{Opens, Sign, sign, whole?, opens?, first_sign}
+use Rattle.reason.specs.declared.Reason.{Reason}
+use Rattle.reason.specs.declared.Reason.TheVariants.{CutShort}
 
 -- ---- the test
 
@@ -26,39 +28,6 @@ true_opens rs s e = (take (length rs) s, drop (length rs) s, sym (take-append-dr
 
 pub opens_true : (rs : List Range) (s : List ℕ) → Opens rs s → opens? rs s ≡ true
 opens_true rs s (w, z, e, h) = ap whole? (ap (fit rs) e ∙ whole-fit rs w z h)
-
-pub opens_short : (rs : List Range) (s : List ℕ) → length s < length rs → opens? rs s ≡ false
-opens_short rs s l = go (opens? rs s) refl
-  where
-    go : (t : Bool) → opens? rs s ≡ t → t ≡ false
-    go true e = let (w, z, f, h) = true_opens rs s e in absurd (omega (arith, fits-length rs w h, ap length f, length-append w z))
-    go false e = refl
-
--- ---- one range and two, as the code tests them
-
-whole_on : (t : Bool) → whole? (go_on t whole) ≡ t
-whole_on true = refl
-whole_on false = refl
-
-whole_both : (t u : Bool) → whole? (go_on t (go_on u whole)) ≡ (t && u)
-whole_both true true = refl
-whole_both true false = refl
-whole_both false u = refl
-
-pub opens_one : (r : Range) (s : List ℕ) → 0 < length s → opens? (r ∷ []) s ≡ in? r (get_or s 0 0)
-opens_one r [] l = absurd (omega arith)
-opens_one r (a ∷ s) l = whole_on (in? r a)
-
-opens_two : (r q : Range) (s : List ℕ) → 1 < length s → opens? (r ∷ q ∷ []) s ≡ (in? r (get_or s 0 0) && in? q (get_or s 1 0))
-opens_two r q [] l = absurd (omega arith)
-opens_two r q (a ∷ []) l = absurd (omega arith)
-opens_two r q (a ∷ b ∷ s) l = whole_both (in? r a) (in? q b)
-
-pub opens_pair : (a : ℕ) (q : Range) (s : List ℕ) → 1 < length s → get_or s 0 0 ≡ a → opens? (a to a ∷ q ∷ []) s ≡ in? q (get_or s 1 0)
-opens_pair a q s l e = opens_two (a to a) q s l ∙ ap (λ (t : Bool). t && in? q (get_or s 1 0)) (true_in (a to a) (get_or s 0 0) (omega arith, omega arith))
-
-pub opens_other : (a : ℕ) (q : Range) (s : List ℕ) → 1 < length s → (get_or s 0 0 ≡ a → ⊥) → opens? (a to a ∷ q ∷ []) s ≡ false
-opens_other a q s l n = opens_two (a to a) q s l ∙ ap (λ (t : Bool). t && in? q (get_or s 1 0)) (false_in (a to a) (get_or s 0 0) (λ h. n (omega arith)))
 
 -- ---- the list
 
@@ -76,11 +45,11 @@ among_more [] r s t h = absurd h
 among_more (sign q rs ∷ l) r s t (inl (e, (w, z, f, h))) = inl (e, (w, z ++ t, ap (λ (x : List ℕ). x ++ t) f ∙ append_assoc w z t, h))
 among_more (sign q rs ∷ l) r s t (inr h) = inr (among_more l r s t h)
 
-pub none_first : (l : List Sign) (s : List ℕ) → None l s → first_sign l s ≡ cut_short
+pub none_first : (l : List Sign) (s : List ℕ) → None l s → first_sign l s ≡ CutShort
 none_first [] s n = refl
 none_first (sign q rs ∷ l) s n = go (opens? rs s) refl (none_first l s (λ r h. n r (inr h)))
   where
-    go : (t : Bool) → opens? rs s ≡ t → first_sign l s ≡ cut_short → cond t q (first_sign l s) ≡ cut_short
+    go : (t : Bool) → opens? rs s ≡ t → first_sign l s ≡ CutShort → cond t q (first_sign l s) ≡ CutShort
     go true e h = absurd (n q (inl (refl, true_opens rs s e)))
     go false e h = h
 

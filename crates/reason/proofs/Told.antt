@@ -1,31 +1,40 @@
--- What stands at the front, as a reason. Assumes nothing.
-use mathlib.Core.Path.{◌≡◌, refl, sym, ap, ◌∙◌}
+-- What `scan` finds at a place, as a reason. Assumes nothing.
+use mathlib.Core.Path.{◌≡◌, refl, sym, ap, ◌∙◌, subst}
+use mathlib.Core.Logic.{◌⊎◌, inl, inr}
 use mathlib.Core.List.{List, [], ◌∷◌}
-use Prim.Native.Nat.{ℕ, ◌≤◌, ◌<◌}
+use Prim.Native.Nat.{ℕ, ◌-◌, ◌≤◌, ◌<◌}
 use native.Mathlib.Omega.{arith}
-use lib.ListN.{length, drop, length-drop, drop_of_length-le}
+use borrow.Author.Rules.{part_to_end}
+use lib.ListN.{length, take, drop, length-drop, drop_of_length-le}
 use Rattle.form.specs.Table.{plain}
-use Rattle.form.specs.Scan.{well, part, bad, scan}
-use Rattle.reason.specs.Reason.{number, judged, by_found, reason}
+use Rattle.form.specs.Scan.{Found, well, part, bad, scan}
+use Rattle.reason.specs.Reason.{judged, by_found, reason}
+use Rattle.reason.specs.declared.Reason.{Reason}
+use Rattle.reason.specs.declared.Reason.TheVariants.{Good, Unfinished, AtEnd}
 use Rattle.reason.proofs.Exactly.{at_none}
 
+-- at some bytes
+abbrev Tells : Reason → List ℕ → Type 0
+Tells r d =
+    ((r ≡ Good) × ((c n : ℕ) × (scan plain d ≡ well c n)))
+    ⊎ ((r ≡ Unfinished) × (scan plain d ≡ part))
+    ⊎ ((r ≡ judged d) × ((n : ℕ) × (scan plain d ≡ bad n)))
+
+tells : (d : List ℕ) → 0 < length d → Tells (by_found (scan plain d) d) d
+tells [] l = absurd (omega arith)
+tells (b ∷ d) l = go (scan plain (b ∷ d)) refl
+  where
+    go : (x : Found) → scan plain (b ∷ d) ≡ x → Tells (by_found x (b ∷ d)) (b ∷ d)
+    go (well c n) e = inl (refl, (c, n, e))
+    go part e = inr (inl (refl, e))
+    go (bad n) e = inr (inr (refl, (n, e)))
+
 module _ (s : List ℕ) (place : ℕ) where
-  pub told-end : length s ≤ place → 9 ≡ number (reason s place)
+  pub told_end : length s ≤ place → reason s place ≡ AtEnd
   unfolding reason
-  told-end h = ap number (sym (ap (λ (d : List ℕ). by_found (scan plain d) d) (drop_of_length-le s h) ∙ sym at_none))
+  told_end h = ap (λ (d : List ℕ). by_found (scan plain d) d) (drop_of_length-le s h) ∙ sym at_none
 
-  pub told-well : (c n : ℕ) → scan plain (drop place s) ≡ well c n → 0 ≡ number (reason s place)
+  -- of the bytes from the place on, as the code takes them
+  pub told_found : place < length s → Tells (reason s place) (take (length s - place) (drop place s))
   unfolding reason
-  told-well c n e = rw e refl
-
-  pub told_part : place < length s → scan plain (drop place s) ≡ part → 8 ≡ number (reason s place)
-  unfolding reason
-  told_part l e = rw e (go (drop place s) refl)
-    where
-      go : (d : List ℕ) → drop place s ≡ d → 8 ≡ number (by_found part d)
-      go [] f = absurd (omega (arith, length-drop place s, ap length f))
-      go (b ∷ d) f = refl
-
-  pub told-bad : (n : ℕ) → scan plain (drop place s) ≡ bad n → number (judged (drop place s)) ≡ number (reason s place)
-  unfolding reason
-  told-bad n e = rw e refl
+  told_found l = subst (λ (d : List ℕ). Tells (reason s place) d) (sym (part_to_end s place)) (tells (drop place s) (omega (arith, length-drop place s)))

@@ -3,7 +3,9 @@ use Rattle.std.specs.Prelude.{◌≡◌, ◌↔◌, List, ℕ, suc, ◌≤◌, �
 use Rattle.form.specs.Table.{plain, tail, In, Begins}
 use Rattle.form.specs.Subpart.{StartsNone, Subpart}
 use Rattle.form.specs.Text.{Bytes}
-use Rattle.reason.specs.Reason.{Reason, good, lone, never, beyond, too_long, surrogate, too_high, cut_short, unfinished, at_end, number, Holds, reason}
+use Rattle.reason.specs.Reason.{number, Holds, reason}
+use Rattle.reason.specs.declared.Reason.{Reason}
+use Rattle.reason.specs.declared.Reason.TheVariants.{Good, Lone, Never, Beyond, TooLong, Surrogate, TooHigh, CutShort, Unfinished, AtEnd}
 
 -- at this place of these bytes exactly one reason holds, and it is the one that is given
 pub record Exactly (s : List ℕ) (place : ℕ) : Type 0 where
@@ -18,16 +20,16 @@ pub record LeavesNone (s : List ℕ) (n : ℕ) : Type 0 where
 
 -- where the byte stands that leaves no well-formed sequence: at the place; behind it; where a continuation was due; nowhere
 abbrev pub Judged : Reason → List ℕ → Type 0
-Judged good s = Unit {0}
-Judged lone s = LeavesNone s 0
-Judged never s = LeavesNone s 0
-Judged beyond s = LeavesNone s 0
-Judged too_long s = LeavesNone s 1
-Judged surrogate s = LeavesNone s 1
-Judged too_high s = LeavesNone s 1
-Judged cut_short s = (n : ℕ) × (1 ≤ n) × LeavesNone s n × (In tail (get_or s n 0) → ⊥)
-Judged unfinished s = Begins plain s
-Judged at_end s = Unit {0}
+Judged Good s = Unit {0}
+Judged Lone s = LeavesNone s 0
+Judged Never s = LeavesNone s 0
+Judged Beyond s = LeavesNone s 0
+Judged TooLong s = LeavesNone s 1
+Judged Surrogate s = LeavesNone s 1
+Judged TooHigh s = LeavesNone s 1
+Judged CutShort s = (n : ℕ) × (1 ≤ n) × LeavesNone s n × (In tail (get_or s n 0) → ⊥)
+Judged Unfinished s = Begins plain s
+Judged AtEnd s = Unit {0}
 
 pub record Request : Type 0 where
   -- "For a bad place in plain UTF-8, LAST given and SURRO absent, name the reason": one of 1 to 8 is given exactly where there is a byte and no

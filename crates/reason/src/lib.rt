@@ -1,102 +1,94 @@
 // Why the bytes at a place are bad, in plain UTF-8 with LAST.
 #![tactic(auto)]
 
-ghost use Rattle.std.specs.Prelude.{◌≡◌, [], ◌∷◌};
-ghost use Rattle.form.specs.Table.{◌to◌};
-ghost use Rattle.form.specs.Scan.{in?};
-ghost use Rattle.reason.specs.Reason.{number, opens?, judged, reason};
+ghost use Rattle.std.specs.Prelude.{◌≡◌};
+ghost use Rattle.reason.specs.Reason.{judged, reason};
 
 use forms::Form;
 use front::Front;
+use std::fmt;
 
-// The numbers of request C-14, in the order of `Reason`; docs/RULES.md, "Why bytes are bad", has what each says.
-pub const GOOD: u8 = 0;
-
-pub const LONE: u8 = 1;
-
-pub const NEVER: u8 = 2;
-
-pub const BEYOND: u8 = 3;
-
-pub const TOO_LONG: u8 = 4;
-
-pub const SURROGATE: u8 = 5;
-
-pub const TOO_HIGH: u8 = 6;
-
-pub const CUT_SHORT: u8 = 7;
-
-pub const UNFINISHED: u8 = 8;
-
-pub const AT_END: u8 = 9;
-
-fn within(b: u8, lo: u8, hi: u8) -> bool
-    ensures { result ≡ in? (lo to hi) b }
-{
-    lo <= b && b <= hi
+// With the numbers of request C-14; docs/RULES.md, "Why bytes are bad", has the bytes of each.
+#[derive(Clone, Copy, Debug, PartialEq, Eq)]
+pub enum Reason {
+    // None: a well-formed sequence starts there.
+    Good = 0,
+    // A lone 80..BF.
+    Lone = 1,
+    // C0 or C1.
+    Never = 2,
+    // F5..FF.
+    Beyond = 3,
+    // Too long a form: E0 then 80..9F, F0 then 80..8F.
+    TooLong = 4,
+    // ED then A0..BF.
+    Surrogate = 5,
+    // F4 then 90..BF.
+    TooHigh = 6,
+    // A byte that is not 80..BF where a continuation was due.
+    CutShort = 7,
+    // The end, where a continuation was due.
+    Unfinished = 8,
+    // No byte.
+    AtEnd = 9,
 }
 
-// The first byte is in the range.
-fn first_in(s: &[u8], lo: u8, hi: u8) -> bool
-    ensures { result ≡ opens? (lo to hi ∷ []) s.now }
-{
-    if s.len() == 0 {
-        return false;
+impl From<Reason> for u8 {
+    ghost use Rattle.reason.specs.Reason.{number};
+
+    ghost from_gives = { λ r n. n ≡ number r };
+
+    fn from(reason: Reason) -> u8 {
+        reason as u8
     }
-    within(s[0], lo, hi)
 }
 
-// The first byte is this one, and the second is in the range.
-fn pair_in(s: &[u8], first: u8, lo: u8, hi: u8) -> bool
-    ensures { result ≡ opens? (first to first ∷ lo to hi ∷ []) s.now }
-{
-    if s.len() < 2 {
-        return false;
+// In the words of the header for C.
+impl fmt::Display for Reason {
+    fn fmt<W: fmt::Write>(&self, f: &mut fmt::Formatter<W>) -> fmt::Result {
+        f.write_str(match self {
+            Reason::Good => "well-formed",
+            Reason::Lone => "a continuation byte with nothing to continue",
+            Reason::Never => "C0 and C1 begin no sequence",
+            Reason::Beyond => "F5 to FF begin no sequence",
+            Reason::TooLong => "too long a form of its code",
+            Reason::Surrogate => "a surrogate, D800 to DFFF",
+            Reason::TooHigh => "above 10FFFF, the last code",
+            Reason::CutShort => "no continuation byte follows",
+            Reason::Unfinished => "the end of the input cuts it off",
+            Reason::AtEnd => "at or past the end",
+        })
     }
-    if s[0] != first {
-        return false;
-    }
-    within(s[1], lo, hi)
 }
 
 // By the rows of the request, where no sequence starts and the rest is not partial.
-fn judge(s: &[u8]) -> u8
-    ensures { result ≡ number (judged s.now) }
+#[tactic(auto, using(crate::proofs::Judged::judged_tells))]
+fn judge(s: &[u8]) -> Reason
+    ensures { result ≡ judged s.now }
 {
-    if first_in(s, 0x80, 0xBF) {
-        return LONE;
+    match s {
+        [0x80..=0xBF, ..] => Reason::Lone,
+        [0xC0..=0xC1, ..] => Reason::Never,
+        [0xF5..=0xFF, ..] => Reason::Beyond,
+        [0xE0, 0x80..=0x9F, ..] => Reason::TooLong,
+        [0xF0, 0x80..=0x8F, ..] => Reason::TooLong,
+        [0xED, 0xA0..=0xBF, ..] => Reason::Surrogate,
+        [0xF4, 0x90..=0xBF, ..] => Reason::TooHigh,
+        _ => Reason::CutShort,
     }
-    if first_in(s, 0xC0, 0xC1) {
-        return NEVER;
-    }
-    if first_in(s, 0xF5, 0xFF) {
-        return BEYOND;
-    }
-    if pair_in(s, 0xE0, 0x80, 0x9F) {
-        return TOO_LONG;
-    }
-    if pair_in(s, 0xF0, 0x80, 0x8F) {
-        return TOO_LONG;
-    }
-    if pair_in(s, 0xED, 0xA0, 0xBF) {
-        return SURROGATE;
-    }
-    if pair_in(s, 0xF4, 0x90, 0xBF) {
-        return TOO_HIGH;
-    }
-    CUT_SHORT
 }
 
-// The reason at a place, by its number: 0 at a good place, 9 at or past the end.
-pub fn reason_of(s: &[u8], place: usize) -> u8
-    ensures { result ≡ number (reason s.now place) }
+// The reason at a place: good at a good place, the end at or past it.
+#[tactic(auto, using(crate::proofs::Told::told_end, crate::proofs::Told::told_found))]
+pub fn reason_of(s: &[u8], place: usize) -> Reason
+    ensures { result ≡ reason s.now place }
 {
     if s.len() <= place {
-        return AT_END;
+        return Reason::AtEnd;
     }
     match front::front_of(Form::Plain, &s[place..]) {
-        Front::Well(_, _) => GOOD,
-        Front::Partial(_) => UNFINISHED,
+        Front::Well(_, _) => Reason::Good,
+        Front::Partial(_) => Reason::Unfinished,
         Front::Bad(_) => judge(&s[place..]),
     }
 }
