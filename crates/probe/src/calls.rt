@@ -14,21 +14,15 @@ use std::fmt::Write;
 use steps::{State, Stepped};
 
 // What stands in a buffer before a call, in every byte.
-const FILLED_CODE: u32 = 0xEEEEEEEE;
-
 const FILLED: u8 = 0xEE;
 
-// The contracts give the lengths alone: a caller then never computes the places.
-fn code_buffer() -> [u32; LONGEST]
-    ensures { 65536 ≡ length result }
-{
-    [FILLED_CODE; LONGEST]
-}
+const FILLED_CODE: u32 = 0xEEEEEEEE;
 
-fn byte_buffer() -> [u8; LONGEST]
+// The contract gives the length alone: a caller then never computes the places.
+pub(crate) fn filled<T: Copy>(value: T) -> [T; LONGEST]
     ensures { 65536 ≡ length result }
 {
-    [FILLED; LONGEST]
+    [value; LONGEST]
 }
 
 // Whether a place after the first n was changed, in the room or in some places beyond it.
@@ -75,8 +69,8 @@ fn read(
     room: usize,
     bytes: HexBytes<'_>,
 ) -> fmt::Result {
-    let mut buffer = byte_buffer();
-    let mut codes = code_buffer();
+    let mut buffer = filled(FILLED);
+    let mut codes = filled(FILLED_CODE);
     let m = bytes.put_into(&mut buffer);
     let n = room.min(codes.len());
     let r = read_in(coding, &buffer[..m], &mut codes[..n], flags);
@@ -85,8 +79,8 @@ fn read(
 }
 
 fn rest(out: &mut Output<'_>, flags: u32, room: usize, bytes: HexBytes<'_>) -> fmt::Result {
-    let mut buffer = byte_buffer();
-    let mut codes = code_buffer();
+    let mut buffer = filled(FILLED);
+    let mut codes = filled(FILLED_CODE);
     let mut number: u8 = FILLED;
     let mut produced = usize::MAX;
     let mut subpart = usize::MAX;
@@ -119,8 +113,8 @@ fn write(
     room: usize,
     codes: HexCodes<'_>,
 ) -> fmt::Result {
-    let mut buffer = code_buffer();
-    let mut bytes = byte_buffer();
+    let mut buffer = filled(FILLED_CODE);
+    let mut bytes = filled(FILLED);
     let m = codes.put_into(&mut buffer);
     let n = room.min(bytes.len());
     let r = write_in(coding, &buffer[..m], &mut bytes[..n], flags);
@@ -195,7 +189,7 @@ impl fmt::Display for Told {
 }
 
 fn step(out: &mut Output<'_>, width: Width, state: State, bytes: HexBytes<'_>) -> fmt::Result {
-    let mut buffer = byte_buffer();
+    let mut buffer = filled(FILLED);
     let m = bytes.put_into(&mut buffer);
     let r = stepped(width, state, &buffer[..m]);
     write!(out, "{} {}", Told::of(r.answer, m), HexRecord(r.next.raw))
@@ -230,7 +224,7 @@ fn start(out: &mut Output<'_>, state: State) -> fmt::Result {
 }
 
 // Makes the call and writes its answer.
-pub fn obey(out: &mut Output<'_>, request: Request<'_>) -> fmt::Result {
+pub(crate) fn obey(out: &mut Output<'_>, request: Request<'_>) -> fmt::Result {
     match request {
         Request::Remark(line) => {
             out.say(line);

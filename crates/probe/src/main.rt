@@ -1,8 +1,6 @@
 // Tries one call a line: a command on standard input, its answer on standard output. `probe --help` lists the commands.
 #![tactic(auto)]
 
-ghost use Rattle.std.specs.Prelude.{◌≡◌, length};
-
 use crate::output::{Output, Stopped, fail};
 use crate::request::{LONGEST, Refusal, Request};
 use arrayvec::ArrayVec;
@@ -99,17 +97,10 @@ fn feed(rt: &HostRuntime, chunk: &[u8], line: &mut Line) -> Result<(), Stopped> 
     Ok(())
 }
 
-// The contract gives the length alone: a caller then never computes the places.
-fn chunk_buffer() -> [u8; LONGEST]
-    ensures { 65536 ≡ length result }
-{
-    [0; LONGEST]
-}
-
 // A last line that has no newline is answered too. A proved loop has to end, and nothing says that the input does: the turns are counted up to a
 // number that no run reaches.
 fn answer_all(rt: &HostRuntime) -> Result<(), Stopped> {
-    let mut chunk = chunk_buffer();
+    let mut chunk = calls::filled(0u8);
     let mut line = Line::new();
     for _turn in 0..u64::MAX {
         match rt.stdin().read(&mut chunk) {

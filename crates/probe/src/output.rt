@@ -12,7 +12,7 @@ fn reason(text: &str) -> &str {
 }
 
 // Nothing is told of a message that could not be written.
-pub fn fail(rt: &HostRuntime, what: &str, error: io::Error) {
+pub(crate) fn fail(rt: &HostRuntime, what: &str, error: io::Error) {
     let mut text: ArrayString<256> = ArrayString::new();
     let _ = write!(text, "{error}");
     let why = reason(text.as_str());
@@ -21,16 +21,16 @@ pub fn fail(rt: &HostRuntime, what: &str, error: io::Error) {
 
 // The end of an answer could not be written: nothing more is read.
 #[derive(Clone, Copy)]
-pub struct Stopped;
+pub(crate) struct Stopped;
 
 // Standard output. A write that failed is told on standard error, and what is behind it is written all the same.
 #[derive(Clone, Copy)]
-pub struct Output<'a> {
+pub(crate) struct Output<'a> {
     rt: &'a HostRuntime,
 }
 
 impl<'a> Output<'a> {
-    pub fn new(rt: &'a HostRuntime) -> Output<'a> {
+    pub(crate) fn new(rt: &'a HostRuntime) -> Output<'a> {
         Output { rt }
     }
 
@@ -45,11 +45,11 @@ impl<'a> Output<'a> {
     }
 
     // Bytes that need not be text.
-    pub fn say(&self, bytes: &[u8]) {
+    pub(crate) fn say(&self, bytes: &[u8]) {
         let _ = self.written(bytes);
     }
 
-    pub fn end_line(&self) -> Result<(), Stopped> {
+    pub(crate) fn end_line(&self) -> Result<(), Stopped> {
         self.written(b"\n")
     }
 }

@@ -9,11 +9,11 @@ use std::fmt;
 use steps::State;
 
 // The longest line, and the most room.
-pub const LONGEST: usize = 65536;
+pub(crate) const LONGEST: usize = 65536;
 
 // The units that a step makes of bytes.
 #[derive(Clone, Copy)]
-pub enum Width {
+pub(crate) enum Width {
     Units8,
     Units16,
     Codes,
@@ -22,7 +22,7 @@ pub enum Width {
 }
 
 #[derive(Clone, Copy)]
-pub enum Command {
+pub(crate) enum Command {
     Read(Coding),
     Rest,
     Write(Coding),
@@ -34,7 +34,7 @@ pub enum Command {
 
 // Why a line is refused.
 #[derive(Clone, Copy)]
-pub enum Refusal {
+pub(crate) enum Refusal {
     Empty,
     UnknownCommand,
     TooFewWords,
@@ -101,15 +101,16 @@ impl Command {
 }
 
 // The number that the digits are.
-fn number(digits: &[u8], radix: u32) -> Option<u32>
-    requires { (2 ≤ radix) × (radix ≤ 36) }
-{
+fn number(digits: &[u8], radix: u32) -> Option<u32> {
     if digits.is_empty() {
         return None;
     }
     let mut value: u32 = 0;
     for byte in digits {
-        let digit = char::from(*byte).to_digit(radix)?;
+        let digit = char::from(*byte).to_digit(16)?;
+        if radix <= digit {
+            return None;
+        }
         value = value.checked_mul(radix)?.checked_add(digit)?;
     }
     Some(value)
@@ -126,11 +127,11 @@ fn hexadecimal(digits: &[u8], most: usize) -> Option<u32> {
 
 // Pairs of hexadecimal digits.
 #[derive(Clone, Copy)]
-pub struct HexBytes<'a>(&'a [u8]);
+pub(crate) struct HexBytes<'a>(&'a [u8]);
 
 impl HexBytes<'_> {
     // How many bytes they are, as many as fit. They stand in the buffer then.
-    pub fn put_into(self, out: &mut [u8]) -> usize
+    pub(crate) fn put_into(self, out: &mut [u8]) -> usize
         ensures { IsPrefixLen result out.new }
     {
         let n = out.len().min(self.0.len() / 2);
@@ -155,11 +156,11 @@ impl<'a> TryFrom<&'a [u8]> for HexBytes<'a> {
 
 // Hexadecimal numbers with commas between them.
 #[derive(Clone, Copy)]
-pub struct HexCodes<'a>(&'a [u8]);
+pub(crate) struct HexCodes<'a>(&'a [u8]);
 
 impl HexCodes<'_> {
     // The same of codes.
-    pub fn put_into(self, out: &mut [u32]) -> usize
+    pub(crate) fn put_into(self, out: &mut [u32]) -> usize
         ensures { IsPrefixLen result out.new }
     {
         let mut n = 0;
@@ -311,7 +312,7 @@ impl<'a> Words<'a> {
 }
 
 #[derive(Clone, Copy)]
-pub enum Request<'a> {
+pub(crate) enum Request<'a> {
     // Its own answer.
     Remark(&'a [u8]),
     Read {

@@ -6,7 +6,7 @@ use std::fmt::Write;
 
 // A value that may not be there.
 #[derive(Drop)]
-pub struct OrDash<T>(pub Option<T>);
+pub(crate) struct OrDash<T>(pub(crate) Option<T>);
 
 impl<T: fmt::Display> fmt::Display for OrDash<T> {
     fn fmt<W: fmt::Write>(&self, f: &mut fmt::Formatter<W>) -> fmt::Result {
@@ -18,7 +18,7 @@ impl<T: fmt::Display> fmt::Display for OrDash<T> {
 }
 
 #[derive(Clone, Copy)]
-pub struct Hex(pub u32);
+pub(crate) struct Hex(pub(crate) u32);
 
 impl fmt::Display for Hex {
     fn fmt<W: fmt::Write>(&self, f: &mut fmt::Formatter<W>) -> fmt::Result {
@@ -27,7 +27,7 @@ impl fmt::Display for Hex {
 }
 
 #[derive(Clone, Copy)]
-pub struct Codes<'a>(pub &'a [u32]);
+pub(crate) struct Codes<'a>(pub(crate) &'a [u32]);
 
 impl fmt::Display for Codes<'_> {
     fn fmt<W: fmt::Write>(&self, f: &mut fmt::Formatter<W>) -> fmt::Result {
@@ -39,7 +39,7 @@ impl fmt::Display for Codes<'_> {
 }
 
 #[derive(Clone, Copy)]
-pub struct Bytes<'a>(pub &'a [u8]);
+pub(crate) struct Bytes<'a>(pub(crate) &'a [u8]);
 
 impl fmt::Display for Bytes<'_> {
     // Standard output has no buffer: 32 bytes are one write.
@@ -60,7 +60,7 @@ impl fmt::Display for Bytes<'_> {
 
 // The 16 bytes of a state's record.
 #[derive(Clone, Copy)]
-pub struct HexRecord(pub Record);
+pub(crate) struct HexRecord(pub(crate) Record);
 
 impl fmt::Display for HexRecord {
     fn fmt<W: fmt::Write>(&self, f: &mut fmt::Formatter<W>) -> fmt::Result {
@@ -71,7 +71,7 @@ impl fmt::Display for HexRecord {
 
 // What had been held, after a space.
 #[derive(Clone, Copy)]
-pub struct Held(pub Option<u8>);
+pub(crate) struct Held(pub(crate) Option<u8>);
 
 impl fmt::Display for Held {
     fn fmt<W: fmt::Write>(&self, f: &mut fmt::Formatter<W>) -> fmt::Result {
@@ -84,7 +84,7 @@ impl fmt::Display for Held {
 
 // What a step answers.
 #[derive(Clone, Copy)]
-pub enum Name {
+pub(crate) enum Name {
     Refused,
     Continuation,
     Incomplete,
