@@ -1,0 +1,255 @@
+// The calls that are tried.
+ghost use Rattle.std.specs.Prelude.{◌≡◌, length};
+
+use crate::output::Output;
+use crate::request::{HexBytes, HexCodes, LONGEST, Request, Width};
+use crate::tell::{Bytes, Codes, Held, Hex, HexRecord, Name, OrDash};
+use advance::Answer;
+use back::Back;
+use codings::Coding;
+use decode::Decoded;
+use encode::Encoded;
+use std::fmt;
+use std::fmt::Write;
+use steps::{State, Stepped};
+
+// What stands in a buffer before a call, in every byte.
+const FILLED: u8 = 0xEE;
+
+const FILLED_CODE: u32 = 0xEEEEEEEE;
+
+// The contract gives the length alone: a caller then never computes the places.
+pub(crate) fn filled<T: Copy>(value: T) -> [T; LONGEST]
+    ensures { 65536 ≡ length result }
+{
+    [value; LONGEST]
+}
+
+// Whether a place after the first n was changed, in the room or in some places beyond it.
+fn is_changed_beyond<T: PartialEq>(places: &[T], n: usize, room: usize, filled: &T) -> bool {
+    places
+        .iter()
+        .take(room.saturating_add(16))
+        .skip(n)
+        .any(|place| place != filled)
+}
+
+// The length of a maximal subpart; 0 is none.
+fn subpart_of(length: usize) -> OrDash<usize> {
+    OrDash((length != 0).then_some(length))
+}
+
+// What the reader gave.
+fn tell_codes(
+    out: &mut Output<'_>,
+    codes: &[u32],
+    produced: usize,
+    room: usize,
+    subpart: usize,
+) -> fmt::Result {
+    let n = produced.min(codes.len());
+    write!(out, "{} {}", Codes(&codes[..n]), subpart_of(subpart))?;
+    if is_changed_beyond(codes, n, room, &FILLED_CODE) {
+        write!(out, " beyond")?;
+    }
+    Ok(())
+}
+
+fn read_in(coding: Coding, bytes: &[u8], codes: &mut [u32], flags: u32) -> Decoded {
+    match coding {
+        Coding::Utf8 => decode::decode(bytes, codes, flags),
+        Coding::Cesu8 => decode::decode_in(coding, bytes, codes, flags),
+    }
+}
+
+fn read(
+    out: &mut Output<'_>,
+    coding: Coding,
+    flags: u32,
+    room: usize,
+    bytes: HexBytes<'_>,
+) -> fmt::Result {
+    let mut buffer = filled(FILLED);
+    let mut codes = filled(FILLED_CODE);
+    let m = bytes.put_into(&mut buffer);
+    let n = room.min(codes.len());
+    let r = read_in(coding, &buffer[..m], &mut codes[..n], flags);
+    write!(out, "{} {} ", r.number, r.consumed)?;
+    tell_codes(out, &codes, r.produced, room, r.subpart)
+}
+
+fn rest(out: &mut Output<'_>, flags: u32, room: usize, bytes: HexBytes<'_>) -> fmt::Result {
+    let mut buffer = filled(FILLED);
+    let mut codes = filled(FILLED_CODE);
+    let mut number: u8 = FILLED;
+    let mut produced = usize::MAX;
+    let mut subpart = usize::MAX;
+    let m = bytes.put_into(&mut buffer);
+    let n = room.min(codes.len());
+    let left = rest::decode_rest(
+        &buffer[..m],
+        &mut codes[..n],
+        flags,
+        &mut number,
+        &mut produced,
+        &mut subpart,
+    );
+    write!(out, "{number} ")?;
+    tell_codes(out, &codes, produced, room, subpart)?;
+    write!(out, " {}", Bytes(left))
+}
+
+fn write_in(coding: Coding, codes: &[u32], bytes: &mut [u8], flags: u32) -> Encoded {
+    match coding {
+        Coding::Utf8 => encode::encode(codes, bytes, flags),
+        Coding::Cesu8 => encode::encode_in(coding, codes, bytes, flags),
+    }
+}
+
+fn write(
+    out: &mut Output<'_>,
+    coding: Coding,
+    flags: u32,
+    room: usize,
+    codes: HexCodes<'_>,
+) -> fmt::Result {
+    let mut buffer = filled(FILLED_CODE);
+    let mut bytes = filled(FILLED);
+    let m = codes.put_into(&mut buffer);
+    let n = room.min(bytes.len());
+    let r = write_in(coding, &buffer[..m], &mut bytes[..n], flags);
+    let k = r.produced.min(bytes.len());
+    write!(out, "{} {} {}", r.number, r.consumed, Bytes(&bytes[..k]))?;
+    if is_changed_beyond(&bytes, k, room, &FILLED) {
+        write!(out, " beyond")?;
+    }
+    Ok(())
+}
+
+fn stepped(width: Width, state: State, input: &[u8]) -> Stepped {
+    match width {
+        Width::Units8 => state.step8(input),
+        Width::Units16 => state.step16(input),
+        Width::Codes => state.step32(input),
+        Width::Cesu16 => state.step16_cesu8(input),
+    }
+}
+
+// A step's answer: its name, the unit that came out, what was consumed, how many bytes had been held, and the length of the maximal subpart.
+#[derive(Clone, Copy)]
+struct Told {
+    name: Name,
+    unit: Option<u32>,
+    consumed: usize,
+    held: Option<u8>,
+    subpart: u8,
+}
+
+impl Told {
+    fn new(name: Name, unit: Option<u32>, consumed: usize) -> Told {
+        Told {
+            name,
+            unit,
+            consumed,
+            held: None,
+            subpart: 0,
+        }
+    }
+
+    fn of(answer: Answer, len: usize) -> Told {
+        match answer {
+            Answer::Refused => Told::new(Name::Refused, None, 0),
+            Answer::Continuation(unit) => Told::new(Name::Continuation, Some(unit), 0),
+            Answer::Incomplete => Told::new(Name::Incomplete, None, len),
+            Answer::Bad(held, subpart) => Told {
+                name: Name::Bad,
+                unit: None,
+                consumed: 0,
+                held: Some(held),
+                subpart,
+            },
+            Answer::Null => Told::new(Name::Null, Some(0), 1),
+            Answer::Unit(unit, consumed) => Told::new(Name::Unit, Some(unit), consumed),
+        }
+    }
+}
+
+impl fmt::Display for Told {
+    fn fmt<W: fmt::Write>(&self, f: &mut fmt::Formatter<W>) -> fmt::Result {
+        write!(
+            f,
+            "{}{} {}{} {}",
+            self.name,
+            OrDash(self.unit.map(Hex)),
+            self.consumed,
+            Held(self.held),
+            subpart_of(usize::from(self.subpart))
+        )
+    }
+}
+
+fn step(out: &mut Output<'_>, width: Width, state: State, bytes: HexBytes<'_>) -> fmt::Result {
+    let mut buffer = filled(FILLED);
+    let m = bytes.put_into(&mut buffer);
+    let r = stepped(width, state, &buffer[..m]);
+    write!(out, "{} {}", Told::of(r.answer, m), HexRecord(r.next.raw))
+}
+
+fn back(out: &mut Output<'_>, state: State, unit: u16) -> fmt::Result {
+    let r = state.step_back(unit);
+    let (name, held) = match r.answer {
+        Back::Refused => (Name::Refused, None),
+        Back::Held => (Name::Held, None),
+        Back::Bytes => (Name::Bytes, None),
+        Back::Bad(held) => (Name::Bad, Some(held)),
+    };
+    write!(
+        out,
+        "{}{} {}{} {}",
+        name,
+        Bytes(&r.bytes),
+        r.count,
+        Held(held),
+        HexRecord(r.next.raw)
+    )
+}
+
+fn reset(out: &mut Output<'_>, state: State) -> fmt::Result {
+    let r = state.reset();
+    write!(out, "{} {}", r.number, HexRecord(r.next.raw))
+}
+
+fn start(out: &mut Output<'_>, state: State) -> fmt::Result {
+    write!(out, "{}", if state.is_starting() { "yes" } else { "no" })
+}
+
+// Makes the call and writes its answer.
+pub(crate) fn obey(out: &mut Output<'_>, request: Request<'_>) -> fmt::Result {
+    match request {
+        Request::Remark(line) => {
+            out.say(line);
+            Ok(())
+        }
+        Request::Read {
+            coding,
+            flags,
+            room,
+            bytes,
+        } => read(out, coding, flags, room, bytes),
+        Request::Rest { flags, room, bytes } => rest(out, flags, room, bytes),
+        Request::Write {
+            coding,
+            flags,
+            room,
+            codes,
+        } => write(out, coding, flags, room, codes),
+        Request::Step {
+            width,
+            state,
+            bytes,
+        } => step(out, width, state, bytes),
+        Request::Back { state, unit } => back(out, state, unit),
+        Request::Reset(state) => reset(out, state),
+        Request::Start(state) => start(out, state),
+    }
+}

@@ -1,0 +1,358 @@
+// What a line asks, read once, or why it is refused.
+ghost use Rattle.std.specs.Prelude.{◌≤◌, IfOk};
+ghost use Rattle.probe.specs.Counts.{IsPrefixLen};
+
+use codings::Coding;
+use state::Record;
+use std::cmp::Ordering;
+use std::fmt;
+use steps::State;
+
+// The longest line, and the most room.
+pub(crate) const LONGEST: usize = 65536;
+
+// The units that a step makes of bytes.
+#[derive(Clone, Copy)]
+pub(crate) enum Width {
+    Units8,
+    Units16,
+    Codes,
+    // 16-bit units of CESU-8.
+    Cesu16,
+}
+
+#[derive(Clone, Copy)]
+pub(crate) enum Command {
+    Read(Coding),
+    Rest,
+    Write(Coding),
+    Step(Width),
+    Back,
+    Reset,
+    Start,
+}
+
+// Why a line is refused.
+#[derive(Clone, Copy)]
+pub(crate) enum Refusal {
+    Empty,
+    UnknownCommand,
+    TooFewWords,
+    TooManyWords,
+    Flags,
+    Room,
+    Bytes,
+    Codes,
+    Record,
+    Unit,
+    TooLong,
+}
+
+impl fmt::Display for Refusal {
+    fn fmt<W: fmt::Write>(&self, f: &mut fmt::Formatter<W>) -> fmt::Result {
+        f.write_str(match self {
+            Refusal::Empty => "the line is empty",
+            Refusal::UnknownCommand => "unknown command",
+            Refusal::TooFewWords => "too few words",
+            Refusal::TooManyWords => "too many words",
+            Refusal::Flags => "FLAGS is not a decimal number up to 4294967295",
+            Refusal::Room => "ROOM is not a decimal number up to 65536",
+            Refusal::Bytes => "BYTES is not pairs of hexadecimal digits, or -",
+            Refusal::Codes =>
+                "CODES is not hexadecimal numbers of 1 to 8 digits with commas between them, or -",
+            Refusal::Record => "RECORD is not 32 hexadecimal digits",
+            Refusal::Unit => "UNIT is not a hexadecimal number of 1 to 4 digits",
+            Refusal::TooLong => "the line is longer than 65536 bytes",
+        })
+    }
+}
+
+impl<'a> TryFrom<&'a [u8]> for Command {
+    type Error = Refusal;
+
+    fn try_from(name: &'a [u8]) -> Result<Command, Refusal> {
+        match name {
+            b"read" => Ok(Command::Read(Coding::Utf8)),
+            b"rest" => Ok(Command::Rest),
+            b"write" => Ok(Command::Write(Coding::Utf8)),
+            b"step8" => Ok(Command::Step(Width::Units8)),
+            b"step16" => Ok(Command::Step(Width::Units16)),
+            b"step32" => Ok(Command::Step(Width::Codes)),
+            b"back" => Ok(Command::Back),
+            b"reset" => Ok(Command::Reset),
+            b"start" => Ok(Command::Start),
+            b"cesu8-read" => Ok(Command::Read(Coding::Cesu8)),
+            b"cesu8-write" => Ok(Command::Write(Coding::Cesu8)),
+            b"cesu8-step16" => Ok(Command::Step(Width::Cesu16)),
+            _ => Err(Refusal::UnknownCommand),
+        }
+    }
+}
+
+impl Command {
+    // How many words the command takes.
+    fn word_count(self) -> usize {
+        match self {
+            Command::Read(_) | Command::Rest | Command::Write(_) => 3,
+            Command::Step(_) | Command::Back => 2,
+            Command::Reset | Command::Start => 1,
+        }
+    }
+}
+
+// The number that the digits are.
+fn number(digits: &[u8], radix: u32) -> Option<u32> {
+    if digits.is_empty() {
+        return None;
+    }
+    let mut value: u32 = 0;
+    for byte in digits {
+        let digit = char::from(*byte).to_digit(16)?;
+        if radix <= digit {
+            return None;
+        }
+        value = value.checked_mul(radix)?.checked_add(digit)?;
+    }
+    Some(value)
+}
+
+// A number of at most so many digits.
+fn hexadecimal(digits: &[u8], most: usize) -> Option<u32> {
+    if digits.len() <= most {
+        number(digits, 16)
+    } else {
+        None
+    }
+}
+
+// Pairs of hexadecimal digits.
+#[derive(Clone, Copy)]
+pub(crate) struct HexBytes<'a>(&'a [u8]);
+
+impl HexBytes<'_> {
+    // How many bytes they are, as many as fit. They stand in the buffer then.
+    pub(crate) fn put_into(self, out: &mut [u8]) -> usize
+        ensures { IsPrefixLen result out.new }
+    {
+        let n = out.len().min(self.0.len() / 2);
+        let _ = hex::decode_to_slice(&self.0[..n * 2], &mut out[..n]);
+        n
+    }
+}
+
+impl<'a> TryFrom<&'a [u8]> for HexBytes<'a> {
+    type Error = Refusal;
+
+    fn try_from(word: &'a [u8]) -> Result<HexBytes<'a>, Refusal> {
+        if word == b"-".as_slice() {
+            return Ok(HexBytes(&[]));
+        }
+        if word.is_empty() || word.len() % 2 == 1 || !word.iter().all(u8::is_ascii_hexdigit) {
+            return Err(Refusal::Bytes);
+        }
+        Ok(HexBytes(word))
+    }
+}
+
+// Hexadecimal numbers with commas between them.
+#[derive(Clone, Copy)]
+pub(crate) struct HexCodes<'a>(&'a [u8]);
+
+impl HexCodes<'_> {
+    // The same of codes.
+    pub(crate) fn put_into(self, out: &mut [u32]) -> usize
+        ensures { IsPrefixLen result out.new }
+    {
+        let mut n = 0;
+        for code in self.0.split(|byte| *byte == b',') {
+            match hexadecimal(code, 8) {
+                Some(value) if n < out.len() => {
+                    out[n] = value;
+                    n += 1;
+                }
+                _ => return n,
+            }
+        }
+        n
+    }
+}
+
+impl<'a> TryFrom<&'a [u8]> for HexCodes<'a> {
+    type Error = Refusal;
+
+    fn try_from(word: &'a [u8]) -> Result<HexCodes<'a>, Refusal> {
+        if word == b"-".as_slice() {
+            return Ok(HexCodes(&[]));
+        }
+        if word
+            .split(|byte| *byte == b',')
+            .all(|code| hexadecimal(code, 8).is_some())
+        {
+            Ok(HexCodes(word))
+        } else {
+            Err(Refusal::Codes)
+        }
+    }
+}
+
+// The words that are left of a line. Between two of them stands one space.
+#[derive(Drop)]
+struct Words<'a> {
+    left: Option<&'a [u8]>,
+}
+
+impl<'a> Words<'a> {
+    fn next_word(&mut self) -> Result<&'a [u8], Refusal> {
+        let left = self.left.ok_or(Refusal::TooFewWords)?;
+        match left.iter().position(|byte| *byte == b' ') {
+            Some(end) => {
+                self.left = Some(&left[end + 1..]);
+                Ok(&left[..end])
+            }
+            None => {
+                self.left = None;
+                Ok(left)
+            }
+        }
+    }
+
+    // How many words are left.
+    fn count_left(&self) -> usize {
+        match self.left {
+            Some(left) => left.split(|byte| *byte == b' ').count(),
+            None => 0,
+        }
+    }
+
+    fn flags(&mut self) -> Result<u32, Refusal> {
+        number(self.next_word()?, 10).ok_or(Refusal::Flags)
+    }
+
+    fn room(&mut self) -> Result<usize, Refusal>
+        ensures { IfOk result (λ room. room ≤ LONGEST) }
+    {
+        match number(self.next_word()?, 10) {
+            Some(room) if room as usize <= LONGEST => Ok(room as usize),
+            _ => Err(Refusal::Room),
+        }
+    }
+
+    fn bytes(&mut self) -> Result<HexBytes<'a>, Refusal> {
+        HexBytes::try_from(self.next_word()?)
+    }
+
+    fn codes(&mut self) -> Result<HexCodes<'a>, Refusal> {
+        HexCodes::try_from(self.next_word()?)
+    }
+
+    fn state(&mut self) -> Result<State, Refusal> {
+        let mut record = [0u8; 16];
+        match hex::decode_to_slice(self.next_word()?, &mut record) {
+            Ok(()) => {
+                let mut bytes = [0u8; 14];
+                bytes.copy_from_slice(&record[2..]);
+                Ok(State {
+                    raw: Record {
+                        kind: record[0],
+                        count: record[1],
+                        bytes,
+                    },
+                })
+            }
+            Err(_) => Err(Refusal::Record),
+        }
+    }
+
+    fn unit(&mut self) -> Result<u16, Refusal> {
+        match hexadecimal(self.next_word()?, 4) {
+            Some(unit) if unit <= 0xFFFF => Ok(unit as u16),
+            _ => Err(Refusal::Unit),
+        }
+    }
+
+    // All that is left of a line, from its first word on.
+    fn request(mut self) -> Result<Request<'a>, Refusal> {
+        let command = Command::try_from(self.next_word()?)?;
+        match self.count_left().cmp(&command.word_count()) {
+            Ordering::Less => return Err(Refusal::TooFewWords),
+            Ordering::Greater => return Err(Refusal::TooManyWords),
+            Ordering::Equal => {}
+        }
+        match command {
+            Command::Read(coding) => Ok(Request::Read {
+                coding,
+                flags: self.flags()?,
+                room: self.room()?,
+                bytes: self.bytes()?,
+            }),
+            Command::Rest => Ok(Request::Rest {
+                flags: self.flags()?,
+                room: self.room()?,
+                bytes: self.bytes()?,
+            }),
+            Command::Write(coding) => Ok(Request::Write {
+                coding,
+                flags: self.flags()?,
+                room: self.room()?,
+                codes: self.codes()?,
+            }),
+            Command::Step(width) => Ok(Request::Step {
+                width,
+                state: self.state()?,
+                bytes: self.bytes()?,
+            }),
+            Command::Back => Ok(Request::Back {
+                state: self.state()?,
+                unit: self.unit()?,
+            }),
+            Command::Reset => Ok(Request::Reset(self.state()?)),
+            Command::Start => Ok(Request::Start(self.state()?)),
+        }
+    }
+}
+
+#[derive(Clone, Copy)]
+pub(crate) enum Request<'a> {
+    // Its own answer.
+    Remark(&'a [u8]),
+    Read {
+        coding: Coding,
+        flags: u32,
+        room: usize,
+        bytes: HexBytes<'a>,
+    },
+    Rest {
+        flags: u32,
+        room: usize,
+        bytes: HexBytes<'a>,
+    },
+    Write {
+        coding: Coding,
+        flags: u32,
+        room: usize,
+        codes: HexCodes<'a>,
+    },
+    Step {
+        width: Width,
+        state: State,
+        bytes: HexBytes<'a>,
+    },
+    Back {
+        state: State,
+        unit: u16,
+    },
+    Reset(State),
+    Start(State),
+}
+
+impl<'a> TryFrom<&'a [u8]> for Request<'a> {
+    type Error = Refusal;
+
+    fn try_from(line: &'a [u8]) -> Result<Request<'a>, Refusal> {
+        match line {
+            [] => Err(Refusal::Empty),
+            [b'#', ..] => Ok(Request::Remark(line)),
+            _ => Words { left: Some(line) }.request(),
+        }
+    }
+}
