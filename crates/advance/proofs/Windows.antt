@@ -1,29 +1,37 @@
 -- What a window of the bytes held and the first of the input shows is what all of them show. Assumes nothing.
-use mathlib.Core.Path.{◌≡◌, refl, sym, ap, ap₂, ◌∙◌}
+use mathlib.Core.Path.{◌≡◌, refl, sym, ap, ap₂, ◌∙◌, subst}
+use mathlib.Core.Bool.{cond}
 use mathlib.Core.Logic.{◌⊎◌, inl, inr, ⊎_elim}
 use mathlib.Core.List.{List, [], ◌∷◌, ◌++◌, append_assoc}
 use Prim.Native.Nat.{ℕ, zero, suc, ◌+◌, ◌-◌, ◌≤◌, ◌<◌, max}
 use native.Mathlib.Omega.{arith}
 use native.Mathlib.Decide.{dec_le}
 use borrow.Author.Tests.{eq-eqb, ne_eqb}
+use lib.Dec.{eqb}
 use lib.ListN.{length, take, drop, replicate, length-append, take-append-drop}
 use lib.Seq.{paste, take-paste, length_paste_head, length-take-le, take_all, drop-drop, take-append-le}
 use Rattle.form.specs.Table.{Form}
 use Rattle.form.specs.Scan.{Found, well, part, bad, scan}
 use Rattle.form.proofs.Laws.{Scans}
+use Rattle.form.proofs.Subparts.{bad-short}
+use Rattle.forms.specs.declared.Form.{Form as Form'}
+use Rattle.forms.specs.Forms.{rows_of}
+use Rattle.forms.proofs.Forms.{form_scans}
+use Rattle.front.specs.declared.Front.{Front}
+use Rattle.front.specs.declared.Front.TheVariants as Variants
+use Rattle.front.specs.Front.{told, told_of}
+use Rattle.front.proofs.Told.{Finds, told-finds}
 use Rattle.state.specs.Meaning.{starting, padded, record_of}
 use Rattle.units.specs.Width.{Width}
 use Rattle.state.specs.declared.Record.{Record}
 use Rattle.advance.specs.declared.Answer.TheVariants.{Incomplete, Bad, Null}
+use Rattle.advance.specs.declared.Advanced.{Advanced}
+use Rattle.advance.specs.declared.Reading.{Reading}
 use Rattle.advance.specs.declared.Reading.TheVariants.{Done, Code}
 use Rattle.advance.specs.Step.{incomplete, tell, tell_bad, to, hold, convert, reads, step}
-use Rattle.advance.specs.Advance.{Says, used, Holding, taken}
+use Rattle.advance.specs.Advance.{Says, Advances, used, Holding, taken}
 
 -- ---- the state while bytes are held
-
-pub hold-none : (h : List ℕ) → length h ≡ 0 → hold h ≡ starting
-hold-none [] e = refl
-hold-none (b ∷ h) e = absurd (omega arith)
 
 pub hold-some : (h : List ℕ) → 0 < length h → record_of (hold h) ≡ record { kind = 1; count = length h; bytes = padded h }
 unfolding record_of
@@ -118,16 +126,10 @@ module _ {F : Form} (S : Scans F 6) where
     pub held-state : scan F (used s ++ i) ≡ part → (n + m ≡ 0 → ⊥) → record_of (hold (used s ++ i)) ≡ record { kind = 1; count = n + m; bytes = paste d n i m }
     held-state e h = hold-some (used s ++ i) (omega (arith, all-length e, h)) ∙ rw (all-length e, all-padded e) refl
 
-    pub none-held : scan F (used s ++ i) ≡ part → n + m ≡ 0 → hold (used s ++ i) ≡ starting
-    none-held e h = hold-none (used s ++ i) (omega (arith, all-length e))
-
     -- ---- what the window shows, as every width reads it
 
     by : (W : Width) (x : Found) → scan F (used s ++ i) ≡ x → step F W s i ≡ reads W (used s) i x
     by W x e = H.reads_on W i ∙ ap (reads W (used s) i) e
-
-    pub reads_none : scan F (used s ++ i) ≡ part → n + m ≡ 0 → Says F s i (Done Incomplete) (record_of starting)
-    reads_none e h W = by W part e ∙ ap (to (tell incomplete 2 0 (length i) 0)) (none-held e h)
 
     pub reads-some : scan F (used s ++ i) ≡ part → (n + m ≡ 0 → ⊥) → Says F s i (Done Incomplete) (record { kind = 1; count = n + m; bytes = paste d n i m })
     reads-some e h W = by W part e ∙ ap (λ (t : Record). record { answer = tell incomplete 2 0 (length i) 0; next = t }) (held-state e h)
@@ -143,3 +145,38 @@ module _ {F : Form} (S : Scans F 6) where
 
     pub code-after : (c k : ℕ) → scan F (used s ++ i) ≡ well c k → n < k
     code-after c k e = rw held-length at (ends-after S (used s) i c k H.partial e)
+
+-- ---- the same of the record w that holds the window, for the form that is read
+
+module _ (f : Form') (s w : Record) (i : List ℕ) (l : length s.bytes ≡ 14) (H : Holding (rows_of f) s)
+    (g : w ≡ record { kind = 1; count = s.count + taken s.count i; bytes = paste s.bytes s.count i (taken s.count i) }) where
+  together : Found
+  together = scan (rows_of f) (used s ++ i)
+
+  count-is : w.count ≡ s.count + taken s.count i
+  count-is = ap (λ (v : Record). v.count) g
+
+  pub finds : (x r : Front) (k : ℕ) → x ≡ r → k ≡ w.count → told x ≡ told_of (scan (rows_of f) (take k w.bytes)) (length (take k w.bytes)) → Finds r (scan (rows_of f) (used s ++ i))
+  finds x r k e q h =
+      let v : scan (rows_of f) (take k w.bytes) ≡ scan (rows_of f) (used s ++ i) = rw (q, g) (seen (form_scans f) l H i) in
+      subst (Finds r) v (subst (λ (y : Front). Finds y (scan (rows_of f) (take k w.bytes))) e (told-finds x (scan (rows_of f) (take k w.bytes)) _ h))
+
+  -- of the next state t and the reading r
+  is_read : (r : Reading) (t : Record) (a : Advanced) → a ≡ record { reading = r; next = t } → Says (rows_of f) s i r t → Advances (rows_of f) s i a
+  is_read r t a e h = subst (Advances (rows_of f) s i) (sym e) h
+
+  pub is_some : (a : Advanced) → scan (rows_of f) (used s ++ i) ≡ part → (w.count ≡ 0 → ⊥) → a ≡ record { reading = Done Incomplete; next = w } → Advances (rows_of f) s i a
+  is_some a e z h = is_read (Done Incomplete) _ a (h ∙ ap (λ (v : Record). record { reading = Done Incomplete; next = v }) g) (reads-some (form_scans f) l H i e (λ q. z (count-is ∙ q)))
+
+  pub bad-few : (n : ℕ) → Finds (Variants.Bad n) (scan (rows_of f) (used s ++ i)) → n < 6
+  bad-few n (k, e, q) = rw q (bad-short (form_scans f) (omega arith) (used s ++ i) k e)
+
+  pub is_bad : (n : ℕ) (a : Advanced) (t : Record) → Finds (Variants.Bad n) (scan (rows_of f) (used s ++ i)) → a ≡ record { reading = Done (Bad s.count n); next = t } → t ≡ record_of starting → Advances (rows_of f) s i a
+  is_bad n a t (k, e, q) h z = is_read (Done (Bad s.count n)) (record_of starting) a (h ∙ ap (λ (v : Record). record { reading = Done (Bad s.count n); next = v }) z) (rw q (reads-bad (form_scans f) l H i k e))
+
+  pub is_well : (c k n : ℕ) (r : Reading) (t : Record) → scan (rows_of f) (used s ++ i) ≡ well c k → n ≡ k - s.count → r ≡ cond (eqb c 0) (Done Null) (Code c n) → t ≡ record_of starting → Advances (rows_of f) s i (record { reading = r; next = t })
+  is_well c k n r t e m h z = go (dec_le c 0)
+    where
+      go : Dec (c ≤ 0) → Advances (rows_of f) s i (record { reading = r; next = t })
+      go (yes q) = let o : c ≡ 0 = omega arith in rw (h, eq-eqb c 0 o, z) (reads-null (form_scans f) l H i c k e o)
+      go (no q) = let o : c ≡ 0 → ⊥ = λ p. omega arith in rw (h, ne_eqb c 0 o, z, m) (reads-code (form_scans f) l H i c k e o)

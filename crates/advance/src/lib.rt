@@ -1,15 +1,14 @@
 // What the reading steps share: held bytes, advanced over the input.
 #![tactic(auto)]
 
-ghost use Rattle.std.specs.Prelude.{◌≡◌, ◌+◌, ◌≤◌, min};
+ghost use Rattle.std.specs.Prelude.{◌≡◌, ◌+◌, ◌≤◌, cond, eqb};
 ghost use Rattle.std.proofs.Math.Seq.{paste};
 ghost use Rattle.forms.specs.Forms.{rows_of};
 ghost use Rattle.advance.specs.Advance.{Advances, Holding, taken};
 
 use forms::Form;
 use front::Front;
-use state::Record;
-use validity::Kind;
+use state::{Kind, Record};
 
 // What a reading step answers.
 #[derive(Clone, Copy)]
@@ -48,37 +47,30 @@ pub struct Advanced {
     pub next: Record,
 }
 
-// The bytes held, and after them the first of the input.
-#[derive(Clone, Copy)]
-struct Window {
-    bytes: [u8; 14],
-    count: usize,
-}
-
-fn least(a: usize, b: usize) -> usize
-    ensures { result ≡ min a b }
+// The record with the first bytes of the input held too. Six bytes decide, in every form.
+fn gather(s: Record, input: &[u8]) -> Record
+    requires { s.count ≤ 6 }
+    ensures { result ≡ record { kind = 1; count = s.count + taken s.count input.now; bytes = paste s.bytes s.count input.now (taken s.count input.now) } }
 {
-    if a < b {
-        return a;
-    }
-    b
-}
-
-// Six bytes decide, in every form.
-fn gather(held: [u8; 14], n: usize, input: &[u8]) -> Window
-    requires { n ≤ 6 }
-    ensures { result ≡ record { bytes = paste held n input.now (taken n input.now); count = n + taken n input.now } }
-{
-    let m = least(6 - n, input.len());
-    let mut bytes = held;
-    let mut i = 0;
-    while i < m {
-        bytes[n + i] = input[i];
-        i += 1;
-    }
-    Window {
+    let n = usize::from(s.count);
+    let m = (6 - n).min(input.len());
+    let mut bytes = s.bytes;
+    bytes[n..n + m].copy_from_slice(&input[..m]);
+    Record {
+        kind: Kind::Partial.into(),
+        count: (n + m) as u8,
         bytes,
-        count: n + m,
+    }
+}
+
+// Code 0 is told by itself.
+fn whole(c: u32, consumed: usize) -> Reading
+    ensures { result ≡ cond (eqb c 0) (Reading.Done Answer.Null) (Reading.Code c consumed) }
+{
+    if c == 0 {
+        Reading::Done(Answer::Null)
+    } else {
+        Reading::Code(c, consumed)
     }
 }
 
@@ -96,33 +88,19 @@ fn read(form: Form, s: Record, input: &[u8]) -> Advanced
     requires { Holding (rows_of form) s }
     ensures { Advances (rows_of form) s input.now result }
 {
-    let held = s.bytes;
-    let n = s.count as usize;
-    let w = gather(held, n, input);
-    let bytes = w.bytes;
-    let k = w.count;
-    match front::front_of(form, &bytes[..k]) {
+    let window = gather(s, input);
+    match front::front_of(form, &window.bytes[..usize::from(window.count)]) {
         Front::Partial(_) => {
-            if k == 0 {
+            if window.count == 0 {
                 return done(Answer::Incomplete, state::start());
             }
-            let next = Record {
-                kind: state::PARTIAL,
-                count: k as u8,
-                bytes,
-            };
-            done(Answer::Incomplete, next)
+            done(Answer::Incomplete, window)
         }
         Front::Bad(len) => done(Answer::Bad(s.count, len as u8), state::start()),
-        Front::Well(c, m) => {
-            if c == 0 {
-                return done(Answer::Null, state::start());
-            }
-            Advanced {
-                reading: Reading::Code(c, m - n),
-                next: state::start(),
-            }
-        }
+        Front::Well(c, m) => Advanced {
+            reading: whole(c, m - usize::from(s.count)),
+            next: state::start(),
+        },
     }
 }
 
@@ -132,16 +110,15 @@ pub fn advance(form: Form, s: Record, input: &[u8]) -> Advanced
 {
     let b = s.bytes;
     match validity::kind_of(form, s) {
-        Kind::Starting | Kind::Partial => read(form, s, input),
-        Kind::Trail => Advanced {
+        Some(Kind::Starting | Kind::Partial) => read(form, s, input),
+        Some(Kind::Trail) => Advanced {
             reading: Reading::Trail(b[0]),
-            next: state::after_first(s.count, b[1], b[2], b[3]),
+            next: state::after_first(s.count, [b[1], b[2], b[3]]),
         },
-        Kind::Low => Advanced {
+        Some(Kind::Low) => Advanced {
             reading: Reading::Low(state::unit_of(b[0], b[1])),
             next: state::start(),
         },
-        Kind::High => done(Answer::Refused, s),
-        Kind::Invalid => done(Answer::Refused, s),
+        Some(Kind::High) | None => done(Answer::Refused, s),
     }
 }

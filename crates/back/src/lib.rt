@@ -8,7 +8,7 @@ ghost use Rattle.state.specs.Meaning.{starting};
 ghost use Rattle.back.specs.Back.{bytes, back_of, tell, to, refuse, alone, after};
 
 use forms::Form;
-use state::Record;
+use state::{Kind, Record};
 
 // What a 16-bit unit gives.
 #[derive(Clone, Copy)]
@@ -38,11 +38,10 @@ fn bytes_back(c: u32) -> Written
 {
     let w = sequence::bytes_of(Form::Plain, c);
     let b = w.bytes;
-    let bytes = [b[0], b[1], b[2], b[3]];
     Written {
         answer: Back::Bytes,
         count: w.count,
-        bytes,
+        bytes: [b[0], b[1], b[2], b[3]],
         next: state::start(),
     }
 }
@@ -59,6 +58,7 @@ fn no_bytes(answer: Back, next: Record) -> Written
 }
 
 // A unit in a state that is not the step back's.
+#[tactic(auto, unfolding(crate::specs::Back::back_of))]
 pub fn refused(s: Record) -> Written
     ensures { back_of result ≡ refuse s }
 {
@@ -66,17 +66,19 @@ pub fn refused(s: Record) -> Written
 }
 
 // A unit after nothing.
+#[tactic(auto, unfolding(crate::specs::Back::back_of, state::specs::Meaning::record_of))]
 pub fn back_alone(u: u16) -> Written
     ensures { back_of result ≡ alone u }
 {
     match u {
-        0xD800..=0xDBFF => no_bytes(Back::Held, state::of_unit(state::HIGH, u)),
+        0xD800..=0xDBFF => no_bytes(Back::Held, state::of_unit(Kind::High.into(), u)),
         0xDC00..=0xDFFF => no_bytes(Back::Bad(0), state::start()),
-        _ => bytes_back(u as u32),
+        _ => bytes_back(u.into()),
     }
 }
 
 // A unit after the high surrogate h.
+#[tactic(auto, unfolding(crate::specs::Back::back_of))]
 pub fn back_after(h: u16, u: u16) -> Written
     ensures { back_of result ≡ after h u }
 {
