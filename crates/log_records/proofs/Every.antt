@@ -7,22 +7,23 @@ use native.Mathlib.Omega.{arith}
 use lib.ListN.{length, drop, length-map}
 use lib.Seq.{drop-append_seam}
 use Rattle.std.specs.Prelude.{Option, None, Some, IsTrue}
-use Rattle.std.specs.declared.iter.Skip.{Skip}
 use Rattle.std.specs.declared.iter.StepBy.{StepBy}
 use Rattle.std.specs.Iterator.{AlwaysYields, YieldsFirst}
-use Rattle.std.specs.Iterator.Adapters.{skip_source, skip_count, skip_steps, step_by_source, step_by_gap, step_by_first_take, step_by_steps}
+use Rattle.std.specs.Iterator.Adapters.{step_by_source, step_by_gap, step_by_first_take, step_by_steps}
 use Rattle.std.proofs.iter.Yields.{gives_left}
 use Rattle.std.proofs.lemmas.Grind.{common_steps}
 use Rattle.std.proofs.lemmas.Iterator.{YieldsList}
-use Rattle.std.proofs.lemmas.Iterator.Adapters.{YieldsList-from_skip}
 use Rattle.std.proofs.lemmas.Iterator.Consumers.{YieldsList-at}
 use Rattle.log_index.specs.Index.{starts, every}
+use Rattle.form.specs.Table.{plain}
+use Rattle.form.specs.Text.{items}
+use Rattle.bounds.specs.Cover.{place}
 use Rattle.walk.specs.Walk.{ahead, extents_from}
 use Rattle.walk.specs.declared.Extent.{Extent}
 use Rattle.walk.specs.declared.Walk.{Walk}
 use Rattle.walk.proofs.Ahead.{starts_are, YieldsList-from_walk}
 use Rattle.log_index.proofs.Lists.{every_skip}
-use Rattle.log_index.proofs.Starts.{starts-few}
+use Rattle.log_index.proofs.Starts.{starts-few, starts_from}
 
 every-past : (n : ℕ) (l : List ℕ) → length l ≤ n → every n l ≡ []
 every-past n [] h = refl
@@ -87,11 +88,11 @@ YieldsList-from_every : {S A : Type 0} {steps : S → Option A → S → Type 0}
 YieldsList-from_every {steps = steps} {v = v} {ys = ys} {s = s} r g k e =
     record { runs = thinned steps v (every k ys) s (record { all = ys; source = r.runs; gap = g; are = rw (g, e) refl }) }
 
--- `walk_from(log, p).skip(k).step_by(64)`, by where each item starts
-pub YieldsList-from_records : {w : Walk} {a : Skip Walk} {b : StepBy (Skip Walk)} (s : List ℕ) (p k : ℕ) → ahead w ≡ extents_from s p → skip_source a ≡ w → skip_count a ≡ k
-    → step_by_source b ≡ a → step_by_gap b + 1 ≡ 64 → IsTrue (step_by_first_take b) → YieldsList (step_by_steps (skip_steps (YieldsFirst ahead))) (λ e. e.start) b (every k (starts s p))
-YieldsList-from_records {w} {a} {b} s p k e f n g d t =
-    let r : YieldsList (skip_steps (YieldsFirst ahead)) (λ e. e.start) a (drop k (starts s p)) = YieldsList-from_skip k (YieldsList-at f (YieldsList-from_walk s p e)) n in
+-- `walk_from(log, q).step_by(64)` from the place behind k items on, by where each item starts
+pub YieldsList-from_records : {w : Walk} {b : StepBy Walk} (s : List ℕ) (p k q : ℕ) → q ≡ p + place k (items plain 0 (drop p s)) → ahead w ≡ extents_from s q → step_by_source b ≡ w
+    → step_by_gap b + 1 ≡ 64 → IsTrue (step_by_first_take b) → YieldsList (step_by_steps (YieldsFirst ahead)) (λ e. e.start) b (every k (starts s p))
+YieldsList-from_records {w} {b} s p k q e f g d t =
     let first : ◌≡◌ {A = ℕ} 0 (cond (step_by_first_take b) 0 63) = grind (arith, common_steps) in
     let gap : step_by_gap b ≡ 63 = omega arith in
-    rw (every_skip k (starts s p)) (YieldsList-from_every {s = b} (YieldsList-at g r) gap 0 first)
+    let r : every k (starts s p) ≡ every 0 (starts s q) = every_skip k (starts s p) ∙ ap (every 0) (starts_from s p k) ∙ ap (λ (x : ℕ). every 0 (starts s x)) (sym e) in
+    rw r (YieldsList-from_every {s = b} (YieldsList-at g (YieldsList-from_walk s q f)) gap 0 first)

@@ -15,7 +15,8 @@ pub const RECORD: usize = 8;
 pub fn count_records(log: &[u8], from: usize, k: usize) -> usize
     ensures { result ≡ length (every k (starts log.now from)) }
 {
-    walk::walk_from(log, from).skip(k).step_by(EVERY).count()
+    let first = walk::place_after(log, from, k);
+    walk::walk_from(log, first).step_by(EVERY).count()
 }
 
 // Whether there are at most so many of them. Where the bytes that are left cannot have more, they are not read.
@@ -32,11 +33,12 @@ pub fn lay_records(log: &[u8], from: usize, k: usize, out: &mut [u8]) -> usize
     ensures answer { result ≡ length (take (length out.old / 8) (every k (starts log.now from))) }
     ensures output { out.new ≡ over (laid_in 8 (take (length out.old / 8) (every k (starts log.now from)))) out.old }
 {
+    let first = walk::place_after(log, from, k);
     let room = out.len() / RECORD;
     let mut n = 0;
-    for item in walk::walk_from(log, from).skip(k).step_by(EVERY).take(room) {
-        let first = n * RECORD;
-        numbers::put(item.start, &mut out[first..first + RECORD]);
+    for item in walk::walk_from(log, first).step_by(EVERY).take(room) {
+        let at = n * RECORD;
+        numbers::put(item.start, &mut out[at..at + RECORD]);
         n += 1;
     }
     n

@@ -1,10 +1,13 @@
 -- One item on. Assumes nothing.
 use mathlib.Core.Path.{◌≡◌, refl, sym, ap, subst, ◌∙◌}
 use mathlib.Core.List.{List, [], ◌∷◌, map}
-use Prim.Native.Nat.{ℕ, ◌+◌, ◌-◌, ◌≤◌, ◌<◌}
+use Prim.Native.Nat.{ℕ, zero, suc, ◌+◌, ◌-◌, ◌≤◌, ◌<◌}
 use lib.ListN.{length, take, drop, drop_of_length-le}
+use native.Mathlib.Omega.{arith}
+use Rattle.std.specs.Prelude.{fold}
 use Rattle.form.specs.Table.{plain}
 use Rattle.form.specs.Text.{Item, span, items, places}
+use Rattle.bounds.specs.Cover.{place}
 use Rattle.item.specs.Leaf.{leaf_of}
 use Rattle.item.proofs.Here.{here-part}
 use Rattle.std.specs.Iterator.{YieldsFirst}
@@ -48,3 +51,13 @@ YieldsList-from_walk {w} s p e =
     subst (YieldsList (YieldsFirst ahead) (λ e. e.start) w) (ap (map (λ (e : Extent). e.start)) e ∙ starts_are s p)
     (YieldsList-from_shown (YieldsFirst ahead) (λ e. e.start) (λ u. map (λ (e : Extent). e.start) (ahead u)) (λ u t q. ap length (ap (map (λ (e : Extent). e.start)) q.0))
     (λ u x t q. ap (map (λ (e : Extent). e.start)) q) w)
+
+-- behind n items starts the next
+pub ends_at : (s : List ℕ) (p n : ℕ) → fold (λ (q : ℕ) (e : Extent). e.end) p (take n (extents_from s p)) ≡ p + place n (items plain 0 (drop p s))
+unfolding extents_from
+ends_at s p n = go (items plain 0 (drop p s)) p n
+  where
+    go : (l : List Item) (q n : ℕ) → fold (λ (r : ℕ) (e : Extent). e.end) q (take n (extents q l)) ≡ q + place n l
+    go l q zero = omega arith
+    go [] q (suc n) = omega arith
+    go (i ∷ l) q (suc n) = go l (q + span i) n ∙ omega arith

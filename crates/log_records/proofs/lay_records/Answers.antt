@@ -15,7 +15,7 @@ loop-item-preserved c =
     let s = c.step_by.ensures in
     let t = c.take-item-items.ensures in
     let i = c.loop-item.invariant in
-    let r = YieldsList-from_records a.log.now a.from a.k c.walk_from.ensures c.skip.ensures.source c.skip.ensures.count s.source s.step_minus_one s.first_take in
+    let r = YieldsList-from_records a.log.now a.from a.k c.place_after-first.result c.place_after-first.ensures c.walk_from.ensures s.source s.step_minus_one s.first_take in
     let road = YieldsList-at c.into_iter-item-iterator.ensures.into_iter_gives (YieldsList-from_take (length a.out.now / 8) (YieldsList-at t.source r) t.count) in
     let turn = YieldsList-turn road c.loop-item.yielded c.loop-item.item-iterator c.loop-item.yielded_by c.next.result c.next.new.self c.in-Some.item c.in-Some.is c.next.ensures.steps in
     let d = map (λ (e : Extent). e.start) c.loop-item.yielded in
@@ -32,7 +32,7 @@ returns-clause-answer c =
     let a = c.args in
     let s = c.step_by.ensures in
     let t = c.take-item-items.ensures in
-    let r = YieldsList-from_records a.log.now a.from a.k c.walk_from.ensures c.skip.ensures.source c.skip.ensures.count s.source s.step_minus_one s.first_take in
+    let r = YieldsList-from_records a.log.now a.from a.k c.place_after-first.result c.place_after-first.ensures c.walk_from.ensures s.source s.step_minus_one s.first_take in
     let road = YieldsList-at c.into_iter-item-iterator.ensures.into_iter_gives (YieldsList-from_take (length a.out.now / 8) (YieldsList-at t.source r) t.count) in
     let whole = YieldsList-end road c.loop-item.yielded c.loop-item.item-iterator c.loop-item.yielded_by c.next.result c.next.new.self c.in-None.is c.next.ensures.steps in
     c.loop-item.invariant.count ∙ whole.1
@@ -42,7 +42,7 @@ returns-clause-output c =
     let a = c.args in
     let s = c.step_by.ensures in
     let t = c.take-item-items.ensures in
-    let r = YieldsList-from_records a.log.now a.from a.k c.walk_from.ensures c.skip.ensures.source c.skip.ensures.count s.source s.step_minus_one s.first_take in
+    let r = YieldsList-from_records a.log.now a.from a.k c.place_after-first.result c.place_after-first.ensures c.walk_from.ensures s.source s.step_minus_one s.first_take in
     let road = YieldsList-at c.into_iter-item-iterator.ensures.into_iter_gives (YieldsList-from_take (length a.out.now / 8) (YieldsList-at t.source r) t.count) in
     let whole = YieldsList-end road c.loop-item.yielded c.loop-item.item-iterator c.loop-item.yielded_by c.next.result c.next.new.self c.in-None.is c.next.ensures.steps in
     c.loop-item.invariant.filled.front ∙ ap (λ (x : List ℕ). over (laid_in 8 x) a.out.now) whole.0
