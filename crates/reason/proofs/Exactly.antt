@@ -34,7 +34,7 @@ module _ (a : ℕ) (w : List ℕ) (b : ℕ) (z : List ℕ) (p : Partial plain (a
   s = a ∷ w ++ b ∷ z
 
   first-shut : scan plain s ≡ bad 0 → ⊥
-  first-shut e = let z : 0 ≡ suc (length w) = cc (e, cut-bad a w b z p n) in omega arith
+  first-shut e = cc (cut-bad a w b z p n)
 
   pair-shut : (x lo hi : ℕ) → 0x80 ≤ lo → hi ≤ 0xBF → Opens (x to x ∷ lo to hi ∷ []) s → scan plain s ≡ bad 1 → ⊥
   pair-shut x lo hi l g h e = go w refl h

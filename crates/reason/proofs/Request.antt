@@ -101,8 +101,7 @@ none-starts r s (is_cut_short k i e) l g = ((plain-scans.finds_bad s k).0 e).0
 none-starts r s (is_unfinished i h) l g =
     λ w t e v.
     let p = (plain-scans.finds_part s h.0).1 h in
-    let z : ◌≡◌ {A = ℕ} 0 1 = cc (p, ap (scan plain) e ∙ well-scan plain w t v.0 plain-regular.is_distinct v.1) in
-    omega arith
+    cc (ap (scan plain) e ∙ well-scan plain w t v.0 plain-regular.is_distinct v.1)
 none-starts r s (is_good i h) l g = absurd (omega arith)
 none-starts r s (is_at_end i e) l g = absurd (omega arith)
 

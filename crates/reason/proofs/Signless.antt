@@ -23,9 +23,6 @@ use Rattle.reason.specs.declared.Reason.{Reason}
 use Rattle.reason.specs.declared.Reason.TheVariants.{CutShort}
 use Rattle.reason.proofs.Signs.{None, among_more, none_first}
 
-zero≠one : {A : Type 0} → ◌≡◌ {A = ℕ} 0 1 → A
-zero≠one e = absurd (omega arith)
-
 abbrev signless : Reason → Bool
 signless r = eqb (number r) 7
 
@@ -50,9 +47,9 @@ first_signed a s h e n =
     resumes (r ∷ F) t q = go (scan (r ∷ F) s) q
       where
         go : (x : Found) → grow x ≡ bad 0 → ⊥
-        go (well c n) q = zero≠one cc
-        go part q = zero≠one cc
-        go (bad n) q = let z : suc n ≡ 0 = cc in omega arith
+        go (well c n) q = cc
+        go part q = cc
+        go (bad n) q = cc
 
     begins : T (some? (after a plain)) → ⊥
     begins t = resumes (after a plain) t (sym (plain-scans.by_byte a s) ∙ e)
@@ -77,7 +74,7 @@ two_bytes : (a b : ℕ) (s : List ℕ) → scan plain (a ∷ b ∷ s) ≡ bad 1 
 two_bytes a b s e = go (scan plain (a ∷ b ∷ [])) refl
   where
     go : (x : Found) → scan plain (a ∷ b ∷ []) ≡ x → x ≡ bad 1
-    go (well c m) f = zero≠one (cc (plain-scans.well_stays (a ∷ b ∷ []) s c m f, e))
+    go (well c m) f = cc (plain-scans.well_stays (a ∷ b ∷ []) s c m f)
     go (bad m) f = sym (plain-scans.bad_stays (a ∷ b ∷ []) s m f) ∙ e
     go part f =
         let (l, (t, g, w)) = (plain-scans.finds_part (a ∷ b ∷ []) (omega arith)).0 f in

@@ -4,7 +4,6 @@ use mathlib.Core.Logic.{◌⊎◌, inl, inr}
 use mathlib.Core.Bool.{Bool, true, false, ◌&&◌, cond}
 use mathlib.Core.List.{List, [], ◌∷◌, ◌++◌, append_assoc}
 use Prim.Native.Nat.{ℕ, ◌+◌}
-use native.Mathlib.Omega.{arith}
 use lib.Dec.{T}
 use lib.ListN.{length, take, drop, take-append-drop}
 use Rattle.form.specs.Table.{Range, row, Form, index, Codes}
@@ -23,8 +22,8 @@ true_opens rs s e = (take (length rs) s, drop (length rs) s, sym (take-append-dr
   where
     go : (f : Fit) → whole? f ≡ true → f ≡ whole
     go whole e = refl
-    go short e = let z : ◌≡◌ {A = ℕ} 0 1 = cc in absurd (omega arith)
-    go (stops n) e = let z : ◌≡◌ {A = ℕ} 0 1 = cc in absurd (omega arith)
+    go short e = cc
+    go (stops n) e = cc
 
 pub opens_true : (rs : List Range) (s : List ℕ) → Opens rs s → opens? rs s ≡ true
 opens_true rs s (w, z, e, h) = ap whole? (ap (fit rs) e ∙ whole-fit rs w z h)
@@ -58,7 +57,7 @@ first_among [] s = inr (λ r h. h)
 first_among (sign q rs ∷ l) s = go (opens? rs s) refl (first_among l s)
   where
     shut : opens? rs s ≡ false → None l s → None (sign q rs ∷ l) s
-    shut e n r (inl (i, h)) = let z : true ≡ false = sym (opens_true rs s h) ∙ e in let y : ◌≡◌ {A = ℕ} 0 1 = cc in omega arith
+    shut e n r (inl (i, h)) = cc (opens_true rs s h)
     shut e n r (inr h) = n r h
 
     go : (t : Bool) → opens? rs s ≡ t → Among l (first_sign l s) s ⊎ None l s → Among (sign q rs ∷ l) (cond t q (first_sign l s)) s ⊎ None (sign q rs ∷ l) s
