@@ -2,7 +2,7 @@
 ghost use Rattle.std.specs.Prelude.{◌≡◌, length};
 
 use crate::output::Output;
-use crate::request::{HexBytes, HexCodes, LONGEST, Request, Width};
+use crate::request::{HexBytes, LONGEST, Reading, Request, Width, Writing};
 use crate::tell::{Bytes, Codes, Held, Hex, HexRecord, Name, OrDash};
 use advance::Answer;
 use back::Back;
@@ -62,40 +62,34 @@ fn read_in(coding: Coding, bytes: &[u8], codes: &mut [u32], flags: u32) -> Decod
     }
 }
 
-fn read(
-    out: &mut Output<'_>,
-    coding: Coding,
-    flags: u32,
-    room: usize,
-    bytes: HexBytes<'_>,
-) -> fmt::Result {
+fn read(out: &mut Output<'_>, coding: Coding, given: Reading<'_>) -> fmt::Result {
     let mut buffer = filled(FILLED);
     let mut codes = filled(FILLED_CODE);
-    let m = bytes.put_into(&mut buffer);
-    let n = room.min(codes.len());
-    let r = read_in(coding, &buffer[..m], &mut codes[..n], flags);
+    let m = given.bytes.put_into(&mut buffer);
+    let n = given.room.min(codes.len());
+    let r = read_in(coding, &buffer[..m], &mut codes[..n], given.flags);
     write!(out, "{} {} ", r.number, r.consumed)?;
-    tell_codes(out, &codes, r.produced, room, r.subpart)
+    tell_codes(out, &codes, r.produced, given.room, r.subpart)
 }
 
-fn rest(out: &mut Output<'_>, flags: u32, room: usize, bytes: HexBytes<'_>) -> fmt::Result {
+fn rest(out: &mut Output<'_>, given: Reading<'_>) -> fmt::Result {
     let mut buffer = filled(FILLED);
     let mut codes = filled(FILLED_CODE);
     let mut number: u8 = FILLED;
     let mut produced = usize::MAX;
     let mut subpart = usize::MAX;
-    let m = bytes.put_into(&mut buffer);
-    let n = room.min(codes.len());
+    let m = given.bytes.put_into(&mut buffer);
+    let n = given.room.min(codes.len());
     let left = rest::decode_rest(
         &buffer[..m],
         &mut codes[..n],
-        flags,
+        given.flags,
         &mut number,
         &mut produced,
         &mut subpart,
     );
     write!(out, "{number} ")?;
-    tell_codes(out, &codes, produced, room, subpart)?;
+    tell_codes(out, &codes, produced, given.room, subpart)?;
     write!(out, " {}", Bytes(left))
 }
 
@@ -106,21 +100,15 @@ fn write_in(coding: Coding, codes: &[u32], bytes: &mut [u8], flags: u32) -> Enco
     }
 }
 
-fn write(
-    out: &mut Output<'_>,
-    coding: Coding,
-    flags: u32,
-    room: usize,
-    codes: HexCodes<'_>,
-) -> fmt::Result {
+fn write(out: &mut Output<'_>, coding: Coding, given: Writing<'_>) -> fmt::Result {
     let mut buffer = filled(FILLED_CODE);
     let mut bytes = filled(FILLED);
-    let m = codes.put_into(&mut buffer);
-    let n = room.min(bytes.len());
-    let r = write_in(coding, &buffer[..m], &mut bytes[..n], flags);
+    let m = given.codes.put_into(&mut buffer);
+    let n = given.room.min(bytes.len());
+    let r = write_in(coding, &buffer[..m], &mut bytes[..n], given.flags);
     let k = r.produced.min(bytes.len());
     write!(out, "{} {} {}", r.number, r.consumed, Bytes(&bytes[..k]))?;
-    if is_changed_beyond(&bytes, k, room, &FILLED) {
+    if is_changed_beyond(&bytes, k, given.room, &FILLED) {
         write!(out, " beyond")?;
     }
     Ok(())
@@ -230,25 +218,11 @@ pub(crate) fn obey(out: &mut Output<'_>, request: Request<'_>) -> fmt::Result {
             out.say(line);
             Ok(())
         }
-        Request::Read {
-            coding,
-            flags,
-            room,
-            bytes,
-        } => read(out, coding, flags, room, bytes),
-        Request::Rest { flags, room, bytes } => rest(out, flags, room, bytes),
-        Request::Write {
-            coding,
-            flags,
-            room,
-            codes,
-        } => write(out, coding, flags, room, codes),
-        Request::Step {
-            width,
-            state,
-            bytes,
-        } => step(out, width, state, bytes),
-        Request::Back { state, unit } => back(out, state, unit),
+        Request::Read(coding, given) => read(out, coding, given),
+        Request::Rest(given) => rest(out, given),
+        Request::Write(coding, given) => write(out, coding, given),
+        Request::Step(width, state, bytes) => step(out, width, state, bytes),
+        Request::Back(state, unit) => back(out, state, unit),
         Request::Reset(state) => reset(out, state),
         Request::Start(state) => start(out, state),
     }
