@@ -25,12 +25,12 @@ pub(crate) fn filled<T: Copy>(value: T) -> [T; LONGEST]
     [value; LONGEST]
 }
 
-// Whether a place after the first n was changed, in the room or in some places beyond it.
-fn is_changed_beyond<T: PartialEq>(places: &[T], n: usize, room: usize, filled: &T) -> bool {
+// Whether a place behind those that were given was changed, in the room or in some places beyond it.
+fn is_changed_beyond<T: PartialEq>(places: &[T], produced: usize, room: usize, filled: &T) -> bool {
     places
         .iter()
         .take(room.saturating_add(16))
-        .skip(n)
+        .skip(produced)
         .any(|place| place != filled)
 }
 
@@ -47,9 +47,9 @@ fn tell_codes(
     room: usize,
     subpart: usize,
 ) -> fmt::Result {
-    let n = produced.min(codes.len());
-    write!(out, "{} {}", Codes(&codes[..n]), subpart_of(subpart))?;
-    if is_changed_beyond(codes, n, room, &FILLED_CODE) {
+    let produced = produced.min(codes.len());
+    write!(out, "{} {}", Codes(&codes[..produced]), subpart_of(subpart))?;
+    if is_changed_beyond(codes, produced, room, &FILLED_CODE) {
         write!(out, " beyond")?;
     }
     Ok(())
@@ -65,11 +65,11 @@ fn read_in(coding: Coding, bytes: &[u8], codes: &mut [u32], flags: u32) -> Decod
 fn read(out: &mut Output<'_>, coding: Coding, given: Reading<'_>) -> fmt::Result {
     let mut buffer = filled(FILLED);
     let mut codes = filled(FILLED_CODE);
-    let m = given.bytes.put_into(&mut buffer);
-    let n = given.room.min(codes.len());
-    let r = read_in(coding, &buffer[..m], &mut codes[..n], given.flags);
-    write!(out, "{} {} ", r.number, r.consumed)?;
-    tell_codes(out, &codes, r.produced, given.room, r.subpart)
+    let length = given.bytes.put_into(&mut buffer);
+    let room = given.room.min(codes.len());
+    let decoded = read_in(coding, &buffer[..length], &mut codes[..room], given.flags);
+    write!(out, "{} {} ", decoded.number, decoded.consumed)?;
+    tell_codes(out, &codes, decoded.produced, room, decoded.subpart)
 }
 
 fn rest(out: &mut Output<'_>, given: Reading<'_>) -> fmt::Result {
@@ -78,18 +78,18 @@ fn rest(out: &mut Output<'_>, given: Reading<'_>) -> fmt::Result {
     let mut number: u8 = FILLED;
     let mut produced = usize::MAX;
     let mut subpart = usize::MAX;
-    let m = given.bytes.put_into(&mut buffer);
-    let n = given.room.min(codes.len());
+    let length = given.bytes.put_into(&mut buffer);
+    let room = given.room.min(codes.len());
     let left = rest::decode_rest(
-        &buffer[..m],
-        &mut codes[..n],
+        &buffer[..length],
+        &mut codes[..room],
         given.flags,
         &mut number,
         &mut produced,
         &mut subpart,
     );
     write!(out, "{number} ")?;
-    tell_codes(out, &codes, produced, given.room, subpart)?;
+    tell_codes(out, &codes, produced, room, subpart)?;
     write!(out, " {}", Bytes(left))
 }
 
@@ -103,12 +103,18 @@ fn write_in(coding: Coding, codes: &[u32], bytes: &mut [u8], flags: u32) -> Enco
 fn write(out: &mut Output<'_>, coding: Coding, given: Writing<'_>) -> fmt::Result {
     let mut buffer = filled(FILLED_CODE);
     let mut bytes = filled(FILLED);
-    let m = given.codes.put_into(&mut buffer);
-    let n = given.room.min(bytes.len());
-    let r = write_in(coding, &buffer[..m], &mut bytes[..n], given.flags);
-    let k = r.produced.min(bytes.len());
-    write!(out, "{} {} {}", r.number, r.consumed, Bytes(&bytes[..k]))?;
-    if is_changed_beyond(&bytes, k, given.room, &FILLED) {
+    let length = given.codes.put_into(&mut buffer);
+    let room = given.room.min(bytes.len());
+    let encoded = write_in(coding, &buffer[..length], &mut bytes[..room], given.flags);
+    let produced = encoded.produced.min(bytes.len());
+    write!(
+        out,
+        "{} {} {}",
+        encoded.number,
+        encoded.consumed,
+        Bytes(&bytes[..produced])
+    )?;
+    if is_changed_beyond(&bytes, produced, room, &FILLED) {
         write!(out, " beyond")?;
     }
     Ok(())
@@ -178,9 +184,14 @@ impl fmt::Display for Told {
 
 fn step(out: &mut Output<'_>, width: Width, state: State, bytes: HexBytes<'_>) -> fmt::Result {
     let mut buffer = filled(FILLED);
-    let m = bytes.put_into(&mut buffer);
-    let r = stepped(width, state, &buffer[..m]);
-    write!(out, "{} {}", Told::of(r.answer, m), HexRecord(r.next.raw))
+    let length = bytes.put_into(&mut buffer);
+    let answered = stepped(width, state, &buffer[..length]);
+    write!(
+        out,
+        "{} {}",
+        Told::of(answered.answer, length),
+        HexRecord(answered.next.raw)
+    )
 }
 
 fn back(out: &mut Output<'_>, state: State, unit: u16) -> fmt::Result {
