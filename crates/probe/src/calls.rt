@@ -2,7 +2,7 @@
 ghost use Rattle.std.specs.Prelude.{◌≡◌, length};
 
 use crate::output::Output;
-use crate::request::{HexBytes, HexCodes, LONGEST, Request, Width};
+use crate::request::{HexBytes, LONGEST, Reading, Request, Width, Writing};
 use crate::tell::{Bytes, Codes, Held, Hex, HexRecord, Name, OrDash};
 use advance::Answer;
 use back::Back;
@@ -25,12 +25,12 @@ pub(crate) fn filled<T: Copy>(value: T) -> [T; LONGEST]
     [value; LONGEST]
 }
 
-// Whether a place after the first n was changed, in the room or in some places beyond it.
-fn is_changed_beyond<T: PartialEq>(places: &[T], n: usize, room: usize, filled: &T) -> bool {
+// Whether a place behind those that were given was changed, in the room or in some places beyond it.
+fn is_changed_beyond<T: PartialEq>(places: &[T], produced: usize, room: usize, filled: &T) -> bool {
     places
         .iter()
         .take(room.saturating_add(16))
-        .skip(n)
+        .skip(produced)
         .any(|place| place != filled)
 }
 
@@ -47,9 +47,9 @@ fn tell_codes(
     room: usize,
     subpart: usize,
 ) -> fmt::Result {
-    let n = produced.min(codes.len());
-    write!(out, "{} {}", Codes(&codes[..n]), subpart_of(subpart))?;
-    if is_changed_beyond(codes, n, room, &FILLED_CODE) {
+    let produced = produced.min(codes.len());
+    write!(out, "{} {}", Codes(&codes[..produced]), subpart_of(subpart))?;
+    if is_changed_beyond(codes, produced, room, &FILLED_CODE) {
         write!(out, " beyond")?;
     }
     Ok(())
@@ -62,34 +62,28 @@ fn read_in(coding: Coding, bytes: &[u8], codes: &mut [u32], flags: u32) -> Decod
     }
 }
 
-fn read(
-    out: &mut Output<'_>,
-    coding: Coding,
-    flags: u32,
-    room: usize,
-    bytes: HexBytes<'_>,
-) -> fmt::Result {
+fn read(out: &mut Output<'_>, coding: Coding, given: Reading<'_>) -> fmt::Result {
     let mut buffer = filled(FILLED);
     let mut codes = filled(FILLED_CODE);
-    let m = bytes.put_into(&mut buffer);
-    let n = room.min(codes.len());
-    let r = read_in(coding, &buffer[..m], &mut codes[..n], flags);
-    write!(out, "{} {} ", r.number, r.consumed)?;
-    tell_codes(out, &codes, r.produced, room, r.subpart)
+    let length = given.bytes.put_into(&mut buffer);
+    let room = given.room.min(codes.len());
+    let decoded = read_in(coding, &buffer[..length], &mut codes[..room], given.flags);
+    write!(out, "{} {} ", decoded.number, decoded.consumed)?;
+    tell_codes(out, &codes, decoded.produced, room, decoded.subpart)
 }
 
-fn rest(out: &mut Output<'_>, flags: u32, room: usize, bytes: HexBytes<'_>) -> fmt::Result {
+fn rest(out: &mut Output<'_>, given: Reading<'_>) -> fmt::Result {
     let mut buffer = filled(FILLED);
     let mut codes = filled(FILLED_CODE);
     let mut number: u8 = FILLED;
     let mut produced = usize::MAX;
     let mut subpart = usize::MAX;
-    let m = bytes.put_into(&mut buffer);
-    let n = room.min(codes.len());
+    let length = given.bytes.put_into(&mut buffer);
+    let room = given.room.min(codes.len());
     let left = rest::decode_rest(
-        &buffer[..m],
-        &mut codes[..n],
-        flags,
+        &buffer[..length],
+        &mut codes[..room],
+        given.flags,
         &mut number,
         &mut produced,
         &mut subpart,
@@ -106,21 +100,21 @@ fn write_in(coding: Coding, codes: &[u32], bytes: &mut [u8], flags: u32) -> Enco
     }
 }
 
-fn write(
-    out: &mut Output<'_>,
-    coding: Coding,
-    flags: u32,
-    room: usize,
-    codes: HexCodes<'_>,
-) -> fmt::Result {
+fn write(out: &mut Output<'_>, coding: Coding, given: Writing<'_>) -> fmt::Result {
     let mut buffer = filled(FILLED_CODE);
     let mut bytes = filled(FILLED);
-    let m = codes.put_into(&mut buffer);
-    let n = room.min(bytes.len());
-    let r = write_in(coding, &buffer[..m], &mut bytes[..n], flags);
-    let k = r.produced.min(bytes.len());
-    write!(out, "{} {} {}", r.number, r.consumed, Bytes(&bytes[..k]))?;
-    if is_changed_beyond(&bytes, k, room, &FILLED) {
+    let length = given.codes.put_into(&mut buffer);
+    let room = given.room.min(bytes.len());
+    let encoded = write_in(coding, &buffer[..length], &mut bytes[..room], given.flags);
+    let produced = encoded.produced.min(bytes.len());
+    write!(
+        out,
+        "{} {} {}",
+        encoded.number,
+        encoded.consumed,
+        Bytes(&bytes[..produced])
+    )?;
+    if is_changed_beyond(&bytes, produced, room, &FILLED) {
         write!(out, " beyond")?;
     }
     Ok(())
@@ -190,9 +184,14 @@ impl fmt::Display for Told {
 
 fn step(out: &mut Output<'_>, width: Width, state: State, bytes: HexBytes<'_>) -> fmt::Result {
     let mut buffer = filled(FILLED);
-    let m = bytes.put_into(&mut buffer);
-    let r = stepped(width, state, &buffer[..m]);
-    write!(out, "{} {}", Told::of(r.answer, m), HexRecord(r.next.raw))
+    let length = bytes.put_into(&mut buffer);
+    let answered = stepped(width, state, &buffer[..length]);
+    write!(
+        out,
+        "{} {}",
+        Told::of(answered.answer, length),
+        HexRecord(answered.next.raw)
+    )
 }
 
 fn back(out: &mut Output<'_>, state: State, unit: u16) -> fmt::Result {
@@ -230,25 +229,11 @@ pub(crate) fn obey(out: &mut Output<'_>, request: Request<'_>) -> fmt::Result {
             out.say(line);
             Ok(())
         }
-        Request::Read {
-            coding,
-            flags,
-            room,
-            bytes,
-        } => read(out, coding, flags, room, bytes),
-        Request::Rest { flags, room, bytes } => rest(out, flags, room, bytes),
-        Request::Write {
-            coding,
-            flags,
-            room,
-            codes,
-        } => write(out, coding, flags, room, codes),
-        Request::Step {
-            width,
-            state,
-            bytes,
-        } => step(out, width, state, bytes),
-        Request::Back { state, unit } => back(out, state, unit),
+        Request::Read(coding, given) => read(out, coding, given),
+        Request::Rest(given) => rest(out, given),
+        Request::Write(coding, given) => write(out, coding, given),
+        Request::Step(width, state, bytes) => step(out, width, state, bytes),
+        Request::Back(state, unit) => back(out, state, unit),
         Request::Reset(state) => reset(out, state),
         Request::Start(state) => start(out, state),
     }

@@ -67,25 +67,31 @@ impl fmt::Display for Refusal {
     }
 }
 
+const COMMANDS: [(&str, Command); 12] = [
+    ("read", Command::Read(Coding::Utf8)),
+    ("rest", Command::Rest),
+    ("write", Command::Write(Coding::Utf8)),
+    ("step8", Command::Step(Width::Units8)),
+    ("step16", Command::Step(Width::Units16)),
+    ("step32", Command::Step(Width::Codes)),
+    ("back", Command::Back),
+    ("reset", Command::Reset),
+    ("start", Command::Start),
+    ("cesu8-read", Command::Read(Coding::Cesu8)),
+    ("cesu8-write", Command::Write(Coding::Cesu8)),
+    ("cesu8-step16", Command::Step(Width::Cesu16)),
+];
+
 impl<'a> TryFrom<&'a [u8]> for Command {
     type Error = Refusal;
 
-    fn try_from(name: &'a [u8]) -> Result<Command, Refusal> {
-        match name {
-            b"read" => Ok(Command::Read(Coding::Utf8)),
-            b"rest" => Ok(Command::Rest),
-            b"write" => Ok(Command::Write(Coding::Utf8)),
-            b"step8" => Ok(Command::Step(Width::Units8)),
-            b"step16" => Ok(Command::Step(Width::Units16)),
-            b"step32" => Ok(Command::Step(Width::Codes)),
-            b"back" => Ok(Command::Back),
-            b"reset" => Ok(Command::Reset),
-            b"start" => Ok(Command::Start),
-            b"cesu8-read" => Ok(Command::Read(Coding::Cesu8)),
-            b"cesu8-write" => Ok(Command::Write(Coding::Cesu8)),
-            b"cesu8-step16" => Ok(Command::Step(Width::Cesu16)),
-            _ => Err(Refusal::UnknownCommand),
+    fn try_from(word: &'a [u8]) -> Result<Command, Refusal> {
+        for (name, command) in COMMANDS {
+            if name.as_bytes() == word {
+                return Ok(command);
+            }
         }
+        Err(Refusal::UnknownCommand)
     }
 }
 
@@ -270,6 +276,22 @@ impl<'a> Words<'a> {
         }
     }
 
+    fn reading(&mut self) -> Result<Reading<'a>, Refusal> {
+        Ok(Reading {
+            flags: self.flags()?,
+            room: self.room()?,
+            bytes: self.bytes()?,
+        })
+    }
+
+    fn writing(&mut self) -> Result<Writing<'a>, Refusal> {
+        Ok(Writing {
+            flags: self.flags()?,
+            room: self.room()?,
+            codes: self.codes()?,
+        })
+    }
+
     // All that is left of a line, from its first word on.
     fn request(mut self) -> Result<Request<'a>, Refusal> {
         let command = Command::try_from(self.next_word()?)?;
@@ -279,68 +301,42 @@ impl<'a> Words<'a> {
             Ordering::Equal => {}
         }
         match command {
-            Command::Read(coding) => Ok(Request::Read {
-                coding,
-                flags: self.flags()?,
-                room: self.room()?,
-                bytes: self.bytes()?,
-            }),
-            Command::Rest => Ok(Request::Rest {
-                flags: self.flags()?,
-                room: self.room()?,
-                bytes: self.bytes()?,
-            }),
-            Command::Write(coding) => Ok(Request::Write {
-                coding,
-                flags: self.flags()?,
-                room: self.room()?,
-                codes: self.codes()?,
-            }),
-            Command::Step(width) => Ok(Request::Step {
-                width,
-                state: self.state()?,
-                bytes: self.bytes()?,
-            }),
-            Command::Back => Ok(Request::Back {
-                state: self.state()?,
-                unit: self.unit()?,
-            }),
+            Command::Read(coding) => Ok(Request::Read(coding, self.reading()?)),
+            Command::Rest => Ok(Request::Rest(self.reading()?)),
+            Command::Write(coding) => Ok(Request::Write(coding, self.writing()?)),
+            Command::Step(width) => Ok(Request::Step(width, self.state()?, self.bytes()?)),
+            Command::Back => Ok(Request::Back(self.state()?, self.unit()?)),
             Command::Reset => Ok(Request::Reset(self.state()?)),
             Command::Start => Ok(Request::Start(self.state()?)),
         }
     }
 }
 
+// What a reader is given.
+#[derive(Clone, Copy)]
+pub(crate) struct Reading<'a> {
+    pub(crate) flags: u32,
+    pub(crate) room: usize,
+    pub(crate) bytes: HexBytes<'a>,
+}
+
+// What a writer is given.
+#[derive(Clone, Copy)]
+pub(crate) struct Writing<'a> {
+    pub(crate) flags: u32,
+    pub(crate) room: usize,
+    pub(crate) codes: HexCodes<'a>,
+}
+
 #[derive(Clone, Copy)]
 pub(crate) enum Request<'a> {
     // Its own answer.
     Remark(&'a [u8]),
-    Read {
-        coding: Coding,
-        flags: u32,
-        room: usize,
-        bytes: HexBytes<'a>,
-    },
-    Rest {
-        flags: u32,
-        room: usize,
-        bytes: HexBytes<'a>,
-    },
-    Write {
-        coding: Coding,
-        flags: u32,
-        room: usize,
-        codes: HexCodes<'a>,
-    },
-    Step {
-        width: Width,
-        state: State,
-        bytes: HexBytes<'a>,
-    },
-    Back {
-        state: State,
-        unit: u16,
-    },
+    Read(Coding, Reading<'a>),
+    Rest(Reading<'a>),
+    Write(Coding, Writing<'a>),
+    Step(Width, State, HexBytes<'a>),
+    Back(State, u16),
     Reset(State),
     Start(State),
 }
