@@ -120,5 +120,5 @@ laid_values k (suc n) w o h =
 
 -- ---- a buffer with bytes at its front
 
-pub over-length : (w d : List ℕ) → length w ≤ length d → length (over w d) ≡ length d
+pub over-length : {A : Type 0} (w d : List A) → length w ≤ length d → length (over w d) ≡ length d
 over-length w d h = omega (arith, length-append w (drop (length w) d), length-drop (length w) d)

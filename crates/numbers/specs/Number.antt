@@ -22,7 +22,7 @@ values_in k zero w = []
 values_in k (suc n) w = value (take k w) ∷ values_in k n (drop k w)
 
 -- a buffer with these bytes at its front
-abbrev pub over : List ℕ → List ℕ → List ℕ
+abbrev pub over : {A : Type 0} → List A → List A → List A
 over w d = w ++ drop (length w) d
 
 -- at each place stands a number below m

@@ -1,27 +1,26 @@
 -- The pieces of a leap are parts of a reading. Assumes nothing.
-use mathlib.Core.Path.{◌≡◌, refl, ap, ◌∙◌}
+use mathlib.Core.Path.{◌≡◌, refl, ap}
 use mathlib.Core.Logic.{inl, inr}
+use Rattle.std.specs.Prelude.{Some}
 use mathlib.Core.Bool.{false}
-use mathlib.Core.List.{List, [], ◌∷◌, ◌++◌}
+use mathlib.Core.List.{List, [], ◌∷◌}
 use Prim.Native.Nat.{ℕ, ◌+◌, ◌-◌, ◌≤◌, ◌<◌}
 use native.Mathlib.Decide.{dec_lt}
 use native.Mathlib.Omega.{arith}
-use lib.ListN.{length, get_or, take, drop}
+use lib.ListN.{length, get_or, drop}
 use lib.Seq.{drop-cons}
-use Rattle.numbers.proofs.Filled.{filled_none, filled_put}
 use Rattle.flags.specs.declared.Flags.{Flags}
 use Rattle.form.specs.Table.{plain, surro, cesu}
 use Rattle.form.specs.Scan.{well, scan}
 use Rattle.forms.specs.declared.Form.{Form}
 use Rattle.forms.specs.declared.Form.TheVariants.{Plain, Surro, Cesu}
 use Rattle.forms.specs.Forms.{rows_of}
-use Rattle.straight.specs.declared.Straight.{Straight}
 use Rattle.straight.specs.Straight.{straight_of}
 use Rattle.forms.proofs.Forms.{form_ascii}
-use Rattle.straight.proofs.Laws.{stray-scan, sure_bad, straight_well}
+use Rattle.straight.proofs.Laws.{stray-scan, sure_bad}
 use Rattle.readings.specs.Reading.{convert, turn}
-use Rattle.readings.specs.Come.{Come, single, Singles}
-use Rattle.readings.proofs.Come.{Layout, converts-one, single-ascii, single-escape, come_start, singles-room, singles-come, turn-well, turn-bad}
+use Rattle.readings.specs.Come.{Layout, Come, single, Singles}
+use Rattle.readings.proofs.Come.{converts-one, single-ascii, single-escape, come_start, singles-room, singles-come, turn-well, turn-bad}
 use Rattle.read_leap.specs.Leap.{Sequenced, Strays}
 
 -- a sequence is not found in no bytes
@@ -30,17 +29,6 @@ unfolding plain surro cesu
 nothing Plain c k e = let z : ◌≡◌ {A = ℕ} 0 1 = cc in omega arith
 nothing Surro c k e = let z : ◌≡◌ {A = ℕ} 0 1 = cc in omega arith
 nothing Cesu c k e = let z : ◌≡◌ {A = ℕ} 0 1 = cc in omega arith
-
--- a sequence that was found, and put at the front
-pub sequenced : {lay : List ℕ → List ℕ} {w : ℕ → ℕ} (L : Layout lay w) (f : Form) (s d₀ d : List ℕ) (q : Straight) → q ≡ straight_of (scan (rows_of f) s) → (q.len ≡ 0 → ⊥) → w 1 ≤ length d₀
-    → d ≡ take 0 d₀ ++ lay (q.code ∷ []) ++ drop (0 + length (lay (q.code ∷ []))) d₀ → Sequenced lay (w 1) (rows_of f) s d₀ d q.len
-sequenced {lay} L f s d₀ d q e g h o =
-    let k : q.len ≡ (straight_of (scan (rows_of f) s)).len = ap (λ (x : Straight). x.len) e in
-    let c : q.code ≡ (straight_of (scan (rows_of f) s)).code = ap (λ (x : Straight). x.code) e in
-    inr (
-      omega arith,
-      (q.code, rw (k, c) (straight_well f s (λ z. g (k ∙ z))), filled_put d₀ d₀ [] (filled_none d₀) 0 refl (lay (q.code ∷ [])) d (omega (arith, L.lengths (q.code ∷ []))) o),
-    )
 
 module _ (f : Form) (m : Flags) where
   turn-ascii : (b : ℕ) (t : List ℕ) → b < 0x80 → turn (rows_of f) m (b ∷ t) ≡ convert (single b) 1
@@ -65,18 +53,13 @@ module _ (f : Form) (m : Flags) where
         go (yes h) = turn-ascii b t h
         go (no h) = let (n, e) = sure_bad f b t g l z in rw (single-escape b (omega arith)) (turn-bad (rows_of f) m b t n p q e)
 
-  module _ {lay : List ℕ → List ℕ} {w : ℕ → ℕ} (L : Layout lay w) (s d₀ d : List ℕ) (r : ℕ) where
+  module _ {A : Type 0} {lay : List ℕ → List A} {w holds : ℕ → ℕ} (L : Layout lay w holds) (s : List ℕ) (d₀ d : List A) (r : ℕ) where
     pub ascii-come : Singles lay 0x80 0 s d₀ d r → Come lay (rows_of f) m s d₀ d r r
     ascii-come S = singles-come L S turn-ascii (λ j g h. absurd (omega arith))
 
-    pub sequenced-come : Sequenced lay (w 1) (rows_of f) s d₀ d r → (r ≡ 0 → ⊥) → Come lay (rows_of f) m s d₀ d r 1
-    sequenced-come (inl (e, o, z)) g = absurd (g e)
-    sequenced-come (inr (h, (c, e, F))) g =
+    pub sequenced-come : Sequenced lay (w 1) (rows_of f) s d₀ d (Some r) → Come lay (rows_of f) m s d₀ d r 1
+    sequenced-come (h, (c, e, F)) =
         record { codes = c ∷ []; count = refl; converts = converts-one (rows_of f) m s c r (turn-sequence s c r e); filled = F }
-
-    pub sequenced-none : Sequenced lay (w 1) (rows_of f) s d₀ d r → r ≡ 0 → (d ≡ d₀) × (w 1 ≤ length d₀ → (straight_of (scan (rows_of f) s)).len ≡ 0)
-    sequenced-none (inl (e, o, z)) g = (o, z)
-    sequenced-none (inr (h, o)) g = absurd (omega arith)
 
     pub strays-come : m.strict ≡ false → m.show ≡ false → (w 1 ≤ length d₀ → (straight_of (scan (rows_of f) s)).len ≡ 0) → Strays lay s d₀ d r → Come lay (rows_of f) m s d₀ d r r
     strays-come p q z (inl (e, o)) = rw (e, o) (come_start L (rows_of f) m s d₀)

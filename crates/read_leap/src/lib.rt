@@ -1,68 +1,55 @@
-// The reader's leap over codes: what needs no care is read in a straight line.
+// The reader's leap: what needs no care is read in a straight line.
 #![tactic(auto)]
 
-ghost use Rattle.std.specs.Prelude.{◌≡◌, [], ◌∷◌, ◌++◌, ◌+◌, ◌≤◌, min, length, take, drop};
+ghost use Rattle.std.specs.Prelude.{◌≡◌, [], ◌∷◌, ◌++◌, ◌+◌, ◌≤◌, length, take, drop};
 ghost use Rattle.forms.specs.Forms.{rows_of};
-ghost use Rattle.readings.specs.Come.{as_is, Singles, Onward};
+ghost use Rattle.readings.specs.Come.{Singles, Onward};
 ghost use Rattle.read_leap.specs.Leap.{Sequenced, Strays};
 
+use cells::Cell;
 use flags::Flags;
 use forms::Form;
 
 // Where fewer bytes are left, a run is read byte by byte: a short line is not worth more.
-pub const MANY: usize = 32;
+const MANY: usize = 32;
 
-// Places in the bytes and in the codes.
+// A place in the bytes and in the codes.
 #[derive(Clone, Copy)]
-pub struct Leapt {
+pub struct Place {
     pub at: usize,
     pub n: usize,
 }
 
-fn lesser(a: usize, b: usize) -> usize
-    ensures { result ≡ min a b }
-{
-    if a < b { a } else { b }
-}
-
-fn wide(b: u8) -> u32
-    ensures { result ≡ b }
-{
-    b as u32
-}
-
 // ASCII byte by byte.
-fn ones(s: &[u8], codes: &mut [u32]) -> usize
-    ensures { Singles as_is 0x80 0 s.now codes.old codes.new result }
+fn ones<C: Cell>(s: &[u8], codes: &mut [C]) -> usize
+    ensures { Singles C.lay 0x80 0 s.now codes.old codes.new result }
 {
-    let end = lesser(s.len(), codes.len());
-    let mut n: usize = 0;
-    while n < end {
+    let end = s.len().min(C::room(codes.len()));
+    for n in 0..end {
         let b = s[n];
         if 0x80 <= b {
             return n;
         }
-        codes[n] = wide(b);
-        n += 1;
+        C::put(codes, n, u32::from(b));
     }
-    n
+    end
 }
 
-fn put_four(codes: &mut [u32], at: usize, a: u8, b: u8, c: u8, d: u8)
-    requires { at + 4 ≤ length codes.old }
-    ensures { codes.new ≡ take at codes.old ++ (a ∷ b ∷ c ∷ d ∷ []) ++ drop (at + 4) codes.old }
+fn put_four<C: Cell>(codes: &mut [C], n: usize, a: u8, b: u8, c: u8, d: u8)
+    requires { C.cells n + C.cells 4 ≤ length codes.old }
+    ensures { codes.new ≡ take (C.cells n) codes.old ++ C.lay (a ∷ b ∷ c ∷ d ∷ []) ++ drop (C.cells n + C.cells 4) codes.old }
 {
-    codes[at] = a as u32;
-    codes[at + 1] = b as u32;
-    codes[at + 2] = c as u32;
-    codes[at + 3] = d as u32;
+    C::put(codes, n, u32::from(a));
+    C::put(codes, n + 1, u32::from(b));
+    C::put(codes, n + 2, u32::from(c));
+    C::put(codes, n + 3, u32::from(d));
 }
 
 // An ASCII byte, and then four at a time.
-fn fours(s: &[u8], codes: &mut [u32]) -> usize
-    ensures { Singles as_is 0x80 0 s.now codes.old codes.new result }
+fn fours<C: Cell>(s: &[u8], codes: &mut [C]) -> usize
+    ensures { Singles C.lay 0x80 0 s.now codes.old codes.new result }
 {
-    let end = lesser(s.len(), codes.len());
+    let end = s.len().min(C::room(codes.len()));
     if end == 0 {
         return 0;
     }
@@ -70,93 +57,85 @@ fn fours(s: &[u8], codes: &mut [u32]) -> usize
     if 0x80 <= first {
         return 0;
     }
-    codes[0] = wide(first);
+    C::put(codes, 0, u32::from(first));
     let mut n: usize = 1;
     'blocks: while 4 <= end - n {
         let a = s[n];
         let b = s[n + 1];
         let c = s[n + 2];
         let d = s[n + 3];
-        if alone::all_ascii(a, b, c, d) {
-            put_four(codes, n, a, b, c, d);
-            n += 4;
-            continue 'blocks;
+        if !alone::all_ascii(a, b, c, d) {
+            break 'blocks;
         }
-        return n;
+        put_four(codes, n, a, b, c, d);
+        n += 4;
     }
     n
 }
 
 // ASCII from the front on, if not all of it.
-fn ascii(s: &[u8], codes: &mut [u32]) -> usize
-    ensures { Singles as_is 0x80 0 s.now codes.old codes.new result }
+fn ascii<C: Cell>(s: &[u8], codes: &mut [C]) -> usize
+    ensures { Singles C.lay 0x80 0 s.now codes.old codes.new result }
 {
     if s.len() < MANY {
-        return ones(s, codes);
+        ones(s, codes)
+    } else {
+        fours(s, codes)
     }
-    fours(s, codes)
 }
 
 // A byte, and those behind it that begin no sequence of more bytes, each by itself; not ED, where a surrogate pair may be cut.
-fn strays(s: &[u8], codes: &mut [u32]) -> usize
-    ensures { Strays as_is s.now codes.old codes.new result }
+fn strays<C: Cell>(s: &[u8], codes: &mut [C]) -> usize
+    ensures { Strays C.lay s.now codes.old codes.new result }
 {
-    if s.len() < 4 {
-        return 0;
-    }
-    if codes.len() < 1 {
+    let end = s.len().min(C::room(codes.len()));
+    if s.len() < 4 || end == 0 {
         return 0;
     }
     let first = s[0];
     if first == 0xED {
         return 0;
     }
-    let end = lesser(s.len(), codes.len());
-    codes[0] = alone::single_of(first);
-    let mut n: usize = 1;
-    while n < end {
+    C::put(codes, 0, alone::single_of(first));
+    for n in 1..end {
         let b = s[n];
         if 0xC2 <= b {
             return n;
         }
-        codes[n] = alone::single_of(b);
-        n += 1;
+        C::put(codes, n, alone::single_of(b));
     }
-    n
+    end
 }
 
 // A sequence in a straight line, where there is room for its code: how many bytes it takes.
-fn sequence(form: Form, s: &[u8], codes: &mut [u32]) -> usize
-    ensures { Sequenced as_is 1 (rows_of form) s.now codes.old codes.new result }
+fn sequence<C: Cell>(form: Form, s: &[u8], codes: &mut [C]) -> Option<usize>
+    ensures { Sequenced C.lay (C.cells 1) (rows_of form) s.now codes.old codes.new result }
 {
-    if codes.len() < 1 {
-        return 0;
+    if C::room(codes.len()) == 0 {
+        return None;
     }
     let q = straight::straight_of(form, s);
     if q.len == 0 {
-        return 0;
+        return None;
     }
-    codes[0] = q.code;
-    q.len
+    C::put(codes, 0, q.code);
+    Some(q.len)
 }
 
 // From one place to another: runs of ASCII, sequences, and without STRICT and SHOW bad bytes. What is left for care: the last
 // bytes and ED, where a sequence may be cut, and what STRICT and SHOW ask for.
-pub fn leap(form: Form, m: Flags, s: &[u8], start: usize, codes: &mut [u32], begun: usize) -> Leapt
-    ensures { Onward as_is (rows_of form) m s.now codes.old codes.new start begun result.at result.n }
+pub fn leap<C: Cell>(form: Form, m: Flags, s: &[u8], codes: &mut [C], from: Place) -> Place
+    ensures { Onward C.lay (rows_of form) m s.now codes.old codes.new from.at from.n result.at result.n }
 {
-    let mut at = start;
-    let mut n = begun;
-    if codes.len() < n {
-        return Leapt { at, n };
+    let Place { mut at, mut n } = from;
+    if C::room(codes.len()) < n {
+        return from;
     }
     let care = alone::careful(m);
-    'places: loop {
-        if s.len() <= at {
-            break 'places;
-        }
+    'places: while at < s.len() {
+        let cell = C::cells(n);
         if s[at] < 0x80 {
-            let run = ascii(&s[at..], &mut codes[n..]);
+            let run = ascii(&s[at..], &mut codes[cell..]);
             at += run;
             n += run;
             if run == 0 {
@@ -164,8 +143,7 @@ pub fn leap(form: Form, m: Flags, s: &[u8], start: usize, codes: &mut [u32], beg
             }
             continue 'places;
         }
-        let len = sequence(form, &s[at..], &mut codes[n..]);
-        if len != 0 {
+        if let Some(len) = sequence(form, &s[at..], &mut codes[cell..]) {
             at += len;
             n += 1;
             continue 'places;
@@ -173,12 +151,12 @@ pub fn leap(form: Form, m: Flags, s: &[u8], start: usize, codes: &mut [u32], beg
         if care {
             break 'places;
         }
-        let run = strays(&s[at..], &mut codes[n..]);
+        let run = strays(&s[at..], &mut codes[cell..]);
         at += run;
         n += run;
         if run == 0 {
             break 'places;
         }
     }
-    Leapt { at, n }
+    Place { at, n }
 }

@@ -13,18 +13,18 @@ use Rattle.numbers.specs.Filled.{Filled}
 use Rattle.flags.specs.declared.Flags.{Flags}
 use Rattle.form.specs.Table.{Form}
 use Rattle.readings.specs.Reading.{Reading, stopped, follow, reading}
-use Rattle.readings.specs.Come.{Come}
-use Rattle.readings.proofs.Come.{Layout, come_same, come-used-up, come-stops, come-reading, come-lent}
+use Rattle.readings.specs.Come.{Layout, Come}
+use Rattle.readings.proofs.Come.{come_same, come-used-up, come-stops, come-reading, come-lent}
 use Rattle.readings.proofs.Theorems.{reading-within, reading-full-up}
 use Rattle.reader.specs.declared.Decoded.{Decoded}
 use Rattle.reader.specs.Decoded.{decoded_of}
 
 -- the promise of a call that reads s into a buffer with so much room: it was d₀ and is d
-abbrev pub Answers : (List ℕ → List ℕ) → Form → Flags → ℕ → List ℕ → List ℕ → List ℕ → Decoded → Type 0
+abbrev pub Answers : {A : Type 0} → (List ℕ → List A) → Form → Flags → ℕ → List ℕ → List A → List A → Decoded → Type 0
 Answers lay F m room s d₀ d q = (q ≡ decoded_of (reading F m room s)) × (d ≡ over (lay (reading F m room s).codes) d₀)
 
 -- what holds after an item was read with the answer q: the end of the reading, or the next place
-pub record Item (lay : List ℕ → List ℕ) (F : Form) (m : Flags) (room : ℕ) (s d₀ d : List ℕ) (at n : ℕ) (q : Decoded) : Type 0 where
+pub record Item {A : Type 0} (lay : List ℕ → List A) (F : Form) (m : Flags) (room : ℕ) (s : List ℕ) (d₀ d : List A) (at n : ℕ) (q : Decoded) : Type 0 where
   pub place : at + q.consumed ≤ length s
   pub few : n + q.produced ≤ room
   pub same : length d ≡ length d₀
@@ -32,7 +32,7 @@ pub record Item (lay : List ℕ → List ℕ) (F : Form) (m : Flags) (room : ℕ
       → Answers lay F m room s d₀ d (record { number = q.number; consumed = at + q.consumed; produced = n + q.produced; subpart = q.subpart })
   pub goes_on : q.number ≡ 1 → (n + q.produced ≡ room → ⊥) → Come lay F m s d₀ d (at + q.consumed) (n + q.produced) × (n < n + q.produced)
 
-module _ {lay : List ℕ → List ℕ} {w : ℕ → ℕ} (L : Layout lay w) {F : Form} {m : Flags} {s d₀ d : List ℕ} {at n : ℕ} (r : Come lay F m s d₀ d at n) (room : ℕ)
+module _ {A : Type 0} {lay : List ℕ → List A} {w holds : ℕ → ℕ} (L : Layout lay w holds) {F : Form} {m : Flags} {s : List ℕ} {d₀ d : List A} {at n : ℕ} (r : Come lay F m s d₀ d at n) (room : ℕ)
     (h : n ≤ room)
   where
     -- where no bytes are left the reading has ended
@@ -47,7 +47,7 @@ module _ {lay : List ℕ → List ℕ} {w : ℕ → ℕ} (L : Layout lay w) {F :
     abbrev R : Reading
     R = reading F m a (drop at s)
 
-    item : (p : List ℕ) → Filled d₀ p (lay (r.codes ++ R.codes)) → Item lay F m room s d₀ p at n (decoded_of R)
+    item : (p : List A) → Filled d₀ p (lay (r.codes ++ R.codes)) → Item lay F m room s d₀ p at n (decoded_of R)
     unfolding decoded_of follow
     item p f =
         let c = come-reading L r a p f in
@@ -62,7 +62,7 @@ module _ {lay : List ℕ → List ℕ} {w : ℕ → ℕ} (L : Layout lay w) {F :
         }
 
     -- into a part of the buffer, `&mut d[w n..]`, that was lent
-    pub item_lent : (k : ℕ) → k ≡ a → (q : Decoded) (p : List ℕ) → q ≡ decoded_of (reading F m k (take (length s - at) (drop at s)))
+    pub item_lent : (k : ℕ) → k ≡ a → (q : Decoded) (p : List A) → q ≡ decoded_of (reading F m k (take (length s - at) (drop at s)))
         → Filled (mid_of (w n) (length d - w n) d) p (lay (reading F m k (take (length s - at) (drop at s))).codes)
         → Item lay F m room s d₀ (put_mid (w n) (length d - w n) d p) at n q
     item_lent k i q p e f =
