@@ -1,10 +1,10 @@
 -- The pieces of a leap are parts of a reading. Assumes nothing.
-use mathlib.Core.Path.{◌≡◌, refl, ap}
+use mathlib.Core.Path.{◌≡◌, refl, ap, ◌∙◌}
 use mathlib.Core.Logic.{inl, inr}
-use Rattle.std.specs.Prelude.{Some}
+use Rattle.std.specs.Prelude.{Some, None}
 use mathlib.Core.Bool.{false}
 use mathlib.Core.List.{List, [], ◌∷◌}
-use Prim.Native.Nat.{ℕ, ◌+◌, ◌-◌, ◌≤◌, ◌<◌}
+use Prim.Native.Nat.{ℕ, zero, suc, ◌+◌, ◌-◌, ◌≤◌, ◌<◌}
 use native.Mathlib.Decide.{dec_lt}
 use native.Mathlib.Omega.{arith}
 use lib.ListN.{length, get_or, drop}
@@ -16,8 +16,10 @@ use Rattle.forms.specs.declared.Form.{Form}
 use Rattle.forms.specs.declared.Form.TheVariants.{Plain, Surro, Cesu}
 use Rattle.forms.specs.Forms.{rows_of}
 use Rattle.straight.specs.Straight.{straight_of}
-use Rattle.forms.proofs.Forms.{form_ascii}
-use Rattle.straight.proofs.Laws.{stray-scan, sure_bad}
+use Rattle.forms.proofs.Forms.{form_ascii, form_regular}
+use Rattle.straight.specs.declared.Straight.{Straight}
+use Rattle.straight.proofs.Laws.{stray-scan, sure_bad, straight_well}
+use Rattle.form.proofs.Scan.{scan-well, codes-nil}
 use Rattle.readings.specs.Reading.{convert, turn}
 use Rattle.readings.specs.Come.{Layout, Come, single, Singles}
 use Rattle.readings.proofs.Come.{converts-one, single-ascii, single-escape, come_start, singles-room, singles-come, turn-well, turn-bad}
@@ -29,6 +31,14 @@ unfolding plain surro cesu
 nothing Plain c k e = let z : ◌≡◌ {A = ℕ} 0 1 = cc in omega arith
 nothing Surro c k e = let z : ◌≡◌ {A = ℕ} 0 1 = cc in omega arith
 nothing Cesu c k e = let z : ◌≡◌ {A = ℕ} 0 1 = cc in omega arith
+
+-- a sequence that was found has some bytes
+sequence-some : (f : Form) (s : List ℕ) (q : Straight) → Some q ≡ straight_of (scan (rows_of f) s) → (k : ℕ) → q.len ≡ k → 0 < k
+sequence-some f s q h zero e = absurd (codes-nil (rows_of f) q.code (form_regular f).is_open (scan-well (rows_of f) s q.code zero (straight_well f s q h ∙ ap (well q.code) e)).0)
+sequence-some f s q h (suc k) e = omega arith
+
+pub sequence_found : (f : Form) (s : List ℕ) (q : Straight) → Some q ≡ straight_of (scan (rows_of f) s) → (0 < q.len) × (scan (rows_of f) s ≡ well q.code q.len)
+sequence_found f s q h = (sequence-some f s q h q.len refl, straight_well f s q h)
 
 module _ (f : Form) (m : Flags) where
   turn-ascii : (b : ℕ) (t : List ℕ) → b < 0x80 → turn (rows_of f) m (b ∷ t) ≡ convert (single b) 1
@@ -46,7 +56,7 @@ module _ (f : Form) (m : Flags) where
         go (yes l) = turn-ascii b t l
         go (no l) = let (n, e) = stray-scan f b t (omega arith) h in rw (single-escape b (omega arith)) (turn-bad (rows_of f) m b t n p q e)
 
-    turn-first : (b : ℕ) (t : List ℕ) → (b ≡ 0xED → ⊥) → 4 ≤ length (b ∷ t) → (straight_of (scan (rows_of f) (b ∷ t))).len ≡ 0 → turn (rows_of f) m (b ∷ t) ≡ convert (single b) 1
+    turn-first : (b : ℕ) (t : List ℕ) → (b ≡ 0xED → ⊥) → 4 ≤ length (b ∷ t) → None ≡ straight_of (scan (rows_of f) (b ∷ t)) → turn (rows_of f) m (b ∷ t) ≡ convert (single b) 1
     turn-first b t g l z = go (dec_lt b 0x80)
       where
         go : Dec (b < 0x80) → turn (rows_of f) m (b ∷ t) ≡ convert (single b) 1
@@ -61,7 +71,7 @@ module _ (f : Form) (m : Flags) where
     sequenced-come (h, (c, e, F)) =
         record { codes = c ∷ []; count = refl; converts = converts-one (rows_of f) m s c r (turn-sequence s c r e); filled = F }
 
-    pub strays-come : m.strict ≡ false → m.show ≡ false → (w 1 ≤ length d₀ → (straight_of (scan (rows_of f) s)).len ≡ 0) → Strays lay s d₀ d r → Come lay (rows_of f) m s d₀ d r r
+    pub strays-come : m.strict ≡ false → m.show ≡ false → (w 1 ≤ length d₀ → None ≡ straight_of (scan (rows_of f) s)) → Strays lay s d₀ d r → Come lay (rows_of f) m s d₀ d r r
     strays-come p q z (inl (e, o)) = rw (e, o) (come_start L (rows_of f) m s d₀)
     strays-come p q z (inr (h, g, S)) = singles-come L S (turn-single p q) first
       where

@@ -8,7 +8,7 @@ use Rattle.readings.specs.Come.{Singles}
 
 -- one sequence of r bytes, where there is room for a code of w cells; or nothing
 abbrev pub Sequenced : {A : Type 0} → (List ℕ → List A) → ℕ → Form → List ℕ → List A → List A → Option ℕ → Type 0
-Sequenced lay w F s d₀ d None = (d ≡ d₀) × (w ≤ length d₀ → (straight_of (scan F s)).len ≡ 0)
+Sequenced lay w F s d₀ d None = (d ≡ d₀) × (w ≤ length d₀ → None ≡ straight_of (scan F s))
 Sequenced lay w F s d₀ d (Some r) = (0 < r) × ((c : ℕ) × (scan F s ≡ well c r) × Filled d₀ d (lay (c ∷ [])))
 
 -- the first byte, which is not ED and has three behind it, and some below C2; or nothing

@@ -108,16 +108,14 @@ fn strays<C: Cell>(s: &[u8], codes: &mut [C]) -> usize
 }
 
 // A sequence in a straight line, where there is room for its code: how many bytes it takes.
+#[tactic(auto, using(crate::proofs::Pieces::sequence_found))]
 fn sequence<C: Cell>(form: Form, s: &[u8], codes: &mut [C]) -> Option<usize>
     ensures { Sequenced C.lay (C.cells 1) (rows_of form) s.now codes.old codes.new result }
 {
     if C::room(codes.len()) == 0 {
         return None;
     }
-    let q = straight::straight_of(form, s);
-    if q.len == 0 {
-        return None;
-    }
+    let q = straight::straight_of(form, s)?;
     C::put(codes, 0, q.code);
     Some(q.len)
 }
