@@ -5,9 +5,8 @@ use mathlib.Core.List.{List, [], ◌∷◌, ◌++◌}
 use Prim.Native.Nat.{ℕ, ◌+◌, ◌-◌, ◌*◌, ◌/◌, ◌≤◌, ◌<◌}
 use native.Mathlib.Omega.{arith}
 use lib.Dec.{leb}
-use lib.ListN.{length, take, drop, length-append, length-drop, length-take, take-append-drop}
+use lib.ListN.{length, take, drop, length-append, length-drop, take-append-drop}
 use lib.Seq.{take_all, length-take-le}
-use borrow.Author.Rules.{part_to_end}
 use borrow.Rule.Slice.PartMut.{mid_of, put_mid}
 use borrow.Author.Tests.{le-ltb, le-leb, lt-leb, leb-true, leb-false}
 use Rattle.form.specs.Text.{All}
@@ -29,10 +28,6 @@ resumed_behind : (s rs : List ℕ) (n : ℕ) → All (λ p. p + 3 < n) rs → n 
 resumed_behind s [] n h l = refl
 resumed_behind s (p ∷ []) n h l = onward-next s p (omega (arith, h.0))
 resumed_behind s (p ∷ q ∷ rs) n h l = ap (λ (x : List ℕ). p ∷ x) (resumed_behind s (q ∷ rs) n h.1 l)
-
--- no more records are laid behind place a than the whole buffer has room for
-pub laid-few : (w E : List ℕ) (a k : ℕ) → k ≡ length (take (length (mid_of a (length w - a) w) / 8) E) → k ≤ length w / 8
-laid-few w E a k e = omega (arith, e, length-take (length (mid_of a (length w - a) w) / 8) E, ap length (part_to_end w a), length-drop a w)
 
 -- ---- the answers
 
