@@ -2,7 +2,7 @@
 ghost use Rattle.std.specs.Prelude.{◌≡◌, length};
 
 use crate::output::Output;
-use crate::request::{HexBytes, LONGEST, Reading, Request, Width, Writing};
+use crate::request::{Given, HexBytes, HexCodes, LONGEST, Request, Width};
 use crate::tell::{Bytes, Codes, Held, Hex, HexRecord, Name, OrDash};
 use advance::Answer;
 use back::Back;
@@ -62,23 +62,23 @@ fn read_in(coding: Coding, bytes: &[u8], codes: &mut [u32], flags: u32) -> Decod
     }
 }
 
-fn read(out: &mut Output<'_>, coding: Coding, given: Reading<'_>) -> fmt::Result {
+fn read(out: &mut Output<'_>, coding: Coding, given: Given<HexBytes<'_>>) -> fmt::Result {
     let mut buffer = filled(FILLED);
     let mut codes = filled(FILLED_CODE);
-    let length = given.bytes.put_into(&mut buffer);
+    let length = given.input.put_into(&mut buffer);
     let room = given.room.min(codes.len());
     let decoded = read_in(coding, &buffer[..length], &mut codes[..room], given.flags);
     write!(out, "{} {} ", decoded.number, decoded.consumed)?;
     tell_codes(out, &codes, decoded.produced, room, decoded.subpart)
 }
 
-fn rest(out: &mut Output<'_>, given: Reading<'_>) -> fmt::Result {
+fn rest(out: &mut Output<'_>, given: Given<HexBytes<'_>>) -> fmt::Result {
     let mut buffer = filled(FILLED);
     let mut codes = filled(FILLED_CODE);
     let mut number: u8 = FILLED;
     let mut produced = usize::MAX;
     let mut subpart = usize::MAX;
-    let length = given.bytes.put_into(&mut buffer);
+    let length = given.input.put_into(&mut buffer);
     let room = given.room.min(codes.len());
     let left = rest::decode_rest(
         &buffer[..length],
@@ -100,10 +100,10 @@ fn write_in(coding: Coding, codes: &[u32], bytes: &mut [u8], flags: u32) -> Enco
     }
 }
 
-fn write(out: &mut Output<'_>, coding: Coding, given: Writing<'_>) -> fmt::Result {
+fn write(out: &mut Output<'_>, coding: Coding, given: Given<HexCodes<'_>>) -> fmt::Result {
     let mut buffer = filled(FILLED_CODE);
     let mut bytes = filled(FILLED);
-    let length = given.codes.put_into(&mut buffer);
+    let length = given.input.put_into(&mut buffer);
     let room = given.room.min(bytes.len());
     let encoded = write_in(coding, &buffer[..length], &mut bytes[..room], given.flags);
     let produced = encoded.produced.min(bytes.len());

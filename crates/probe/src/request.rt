@@ -243,12 +243,8 @@ impl<'a> Words<'a> {
         }
     }
 
-    fn bytes(&mut self) -> Result<HexBytes<'a>, Refusal> {
-        HexBytes::try_from(self.next_word()?)
-    }
-
-    fn codes(&mut self) -> Result<HexCodes<'a>, Refusal> {
-        HexCodes::try_from(self.next_word()?)
+    fn input<T: TryFrom<&'a [u8], Error = Refusal>>(&mut self) -> Result<T, Refusal> {
+        T::try_from(self.next_word()?)
     }
 
     fn state(&mut self) -> Result<State, Refusal> {
@@ -276,19 +272,11 @@ impl<'a> Words<'a> {
         }
     }
 
-    fn reading(&mut self) -> Result<Reading<'a>, Refusal> {
-        Ok(Reading {
+    fn given<T: TryFrom<&'a [u8], Error = Refusal>>(&mut self) -> Result<Given<T>, Refusal> {
+        Ok(Given {
             flags: self.flags()?,
             room: self.room()?,
-            bytes: self.bytes()?,
-        })
-    }
-
-    fn writing(&mut self) -> Result<Writing<'a>, Refusal> {
-        Ok(Writing {
-            flags: self.flags()?,
-            room: self.room()?,
-            codes: self.codes()?,
+            input: self.input()?,
         })
     }
 
@@ -301,10 +289,10 @@ impl<'a> Words<'a> {
             Ordering::Equal => {}
         }
         match command {
-            Command::Read(coding) => Ok(Request::Read(coding, self.reading()?)),
-            Command::Rest => Ok(Request::Rest(self.reading()?)),
-            Command::Write(coding) => Ok(Request::Write(coding, self.writing()?)),
-            Command::Step(width) => Ok(Request::Step(width, self.state()?, self.bytes()?)),
+            Command::Read(coding) => Ok(Request::Read(coding, self.given()?)),
+            Command::Rest => Ok(Request::Rest(self.given()?)),
+            Command::Write(coding) => Ok(Request::Write(coding, self.given()?)),
+            Command::Step(width) => Ok(Request::Step(width, self.state()?, self.input()?)),
             Command::Back => Ok(Request::Back(self.state()?, self.unit()?)),
             Command::Reset => Ok(Request::Reset(self.state()?)),
             Command::Start => Ok(Request::Start(self.state()?)),
@@ -312,29 +300,21 @@ impl<'a> Words<'a> {
     }
 }
 
-// What a reader is given.
+// What a reader or a writer is given.
 #[derive(Clone, Copy)]
-pub(crate) struct Reading<'a> {
+pub(crate) struct Given<T> {
     pub(crate) flags: u32,
     pub(crate) room: usize,
-    pub(crate) bytes: HexBytes<'a>,
-}
-
-// What a writer is given.
-#[derive(Clone, Copy)]
-pub(crate) struct Writing<'a> {
-    pub(crate) flags: u32,
-    pub(crate) room: usize,
-    pub(crate) codes: HexCodes<'a>,
+    pub(crate) input: T,
 }
 
 #[derive(Clone, Copy)]
 pub(crate) enum Request<'a> {
     // Its own answer.
     Remark(&'a [u8]),
-    Read(Coding, Reading<'a>),
-    Rest(Reading<'a>),
-    Write(Coding, Writing<'a>),
+    Read(Coding, Given<HexBytes<'a>>),
+    Rest(Given<HexBytes<'a>>),
+    Write(Coding, Given<HexCodes<'a>>),
     Step(Width, State, HexBytes<'a>),
     Back(State, u16),
     Reset(State),
