@@ -70,21 +70,28 @@ fn put6(dst: &mut [u8], n: usize, c: u32)
     dst[n + 5] = mark(lower);
 }
 
+fn no_ascii(c: u32) -> bool
+    ensures { result ≡ false → Ascii c }
+{
+    0x80 <= c
+}
+
 // One of four codes is not ASCII.
 fn some_high(a: u32, b: u32, c: u32, d: u32) -> bool
     ensures { result ≡ false → Ascii a × (Ascii b × (Ascii c × Ascii d)) }
 {
-    0x80 <= a || 0x80 <= b || 0x80 <= c || 0x80 <= d
+    no_ascii(a) || no_ascii(b) || no_ascii(c) || no_ascii(d)
 }
 
-// A run of ASCII, one by one.
-fn ones_out<C: Source>(codes: &[C], dst: &mut [u8]) -> usize
-    ensures { Singled Ascii (C.codes codes.now) dst.old dst.new result }
+// A run of codes of one byte each, up to one that ends it, one by one.
+fn singles_out<C: Source, E: Fn(u32) -> bool>(codes: &[C], dst: &mut [u8], ends: E) -> usize
+    requires { E.IsAlwaysCallable ends }
+    ensures { Singled (λ c. E.post ends c false) (C.codes codes.now) dst.old dst.new result }
 {
     let end = C::count(codes).min(dst.len());
     for n in 0..end {
         let c = C::get(codes, n);
-        if 0x80 <= c {
+        if ends(c) {
             return n;
         }
         dst[n] = low(c);
@@ -115,12 +122,12 @@ fn blocks_out<C: Source>(codes: &[C], dst: &mut [u8]) -> usize
     n
 }
 
-// Where many codes are left, by fours.
+// A run of ASCII, where many codes are left by fours.
 fn run_out<C: Source>(codes: &[C], dst: &mut [u8]) -> usize
     ensures { Singled Ascii (C.codes codes.now) dst.old dst.new result }
 {
     if C::count(codes) < 32 {
-        ones_out(codes, dst)
+        singles_out(codes, dst, no_ascii)
     } else {
         blocks_out(codes, dst)
     }
@@ -142,15 +149,7 @@ fn no_single(c: u32) -> bool
 fn escapes_out<C: Source>(codes: &[C], dst: &mut [u8]) -> usize
     ensures { Singled Single (C.codes codes.now) dst.old dst.new result }
 {
-    let end = C::count(codes).min(dst.len());
-    for n in 0..end {
-        let c = C::get(codes, n);
-        if no_single(c) {
-            return n;
-        }
-        dst[n] = low(c);
-    }
-    end
+    singles_out(codes, dst, no_single)
 }
 
 // With one of these flags an escape is not its byte.
@@ -169,27 +168,19 @@ fn has_pairs(form: Form) -> bool
 
 // The place that is reached: codes consumed and bytes written.
 #[derive(Clone, Copy)]
-pub struct Leapt {
+pub struct Place {
     pub at: usize,
     pub n: usize,
 }
 
 // From a place on, up to a code that is left to the writer: a surrogate that is not an escape, an escape with STRICT or SURRO, a code above
 // 10FFFF, or any where fewer than four bytes are free, for a pair six. Beyond the codes or the buffer it stays where it is.
-pub fn leap<C: Source>(
-    form: Form,
-    m: Flags,
-    codes: &[C],
-    start: usize,
-    dst: &mut [u8],
-    begun: usize,
-) -> Leapt
-    ensures { Onward (rows_of form) m (C.codes codes.now) dst.old dst.new start begun result.at result.n }
+pub fn leap<C: Source>(form: Form, m: Flags, codes: &[C], dst: &mut [u8], from: Place) -> Place
+    ensures { Onward (rows_of form) m (C.codes codes.now) dst.old dst.new from.at from.n result.at result.n }
 {
-    let mut at = start;
-    let mut n = begun;
+    let Place { mut at, mut n } = from;
     if dst.len() < n {
-        return Leapt { at, n };
+        return from;
     }
     let count = C::count(codes);
     while at < count && 4 <= dst.len() - n {
@@ -249,5 +240,5 @@ pub fn leap<C: Source>(
         at += k;
         n += k;
     }
-    Leapt { at, n }
+    Place { at, n }
 }

@@ -3,8 +3,8 @@ use Rattle.forms.specs.Forms.{rows_of}
 use Rattle.writings.specs.Come.{Come}
 use Rattle.encode.proofs.encode_in.Given as goal
 
-abbrev pub invariant-loop-at : goal.invariant-loop-at
-invariant-loop-at g l = Come (rows_of l.form) l.m (g.C.Source.codes l.codes) l.fn.dst l.dst l.at l.n
+abbrev pub invariant-loop-place : goal.invariant-loop-place
+invariant-loop-place g l = Come (rows_of l.form) l.m (g.C.Source.codes l.codes) l.fn.dst l.dst l.place.at l.place.n
 
-abbrev pub decreases-loop-at : goal.decreases-loop-at
-decreases-loop-at g l = l.count - l.at
+abbrev pub decreases-loop-place : goal.decreases-loop-place
+decreases-loop-place g l = l.count - l.place.at

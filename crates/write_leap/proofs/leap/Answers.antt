@@ -1,4 +1,4 @@
-use Rattle.std.proofs.Common.{◌≡◌, ◌+◌, ap, refl, ◌∙◌, arith, length}
+use Rattle.std.proofs.Common.{◌≡◌, ap, refl, ◌∙◌, arith, length}
 use Rattle.form.specs.Pattern.{pattern, cesu_pattern}
 use Rattle.form.specs.Text.{sequence}
 use Rattle.form.proofs.Cesu.{cesu-long}

@@ -1,7 +1,0 @@
-use Rattle.std.proofs.Common.{◌-◌}
-use Rattle.writings.specs.Singled.{Single}
-use Rattle.writings.proofs.Leaping.{Run}
-use Rattle.write_leap.proofs.escapes_out.Given as goal
-
-abbrev pub invariant-loop-n : goal.invariant-loop-n
-invariant-loop-n g l = Run Single (g.C.Source.codes l.codes) l.fn.dst l.dst l.end l.n
