@@ -1,9 +1,11 @@
--- The writer's answer in a coding, where its flags are refused and where the writing has ended. Assumes nothing.
+-- The writer's answer in a coding, where its flags are refused and where the writing has ended, and its call for one code. Assumes nothing.
 use mathlib.Core.Path.{◌≡◌, refl, sym, ap, ◌∙◌}
 use mathlib.Core.Bool.{true, false}
-use mathlib.Core.List.{List, ◌++◌}
-use Prim.Native.Nat.{ℕ}
-use lib.ListN.{length, drop}
+use mathlib.Core.List.{List, [], ◌∷◌, ◌++◌}
+use Prim.Native.Nat.{ℕ, ◌-◌, ◌<◌}
+use lib.ListN.{length, get_or, drop}
+use lib.Seq.{drop-cons}
+use borrow.Rule.Slice.PartMut.{mid_of, put_mid}
 use Rattle.flags.specs.declared.Flags.{Flags}
 use Rattle.flags.specs.Number.{flags_of}
 use Rattle.form.specs.Table.{Form}
@@ -12,10 +14,11 @@ use Rattle.codings.specs.Codings.{writer_form, writer_refuses_in}
 use Rattle.numbers.specs.Number.{over}
 use Rattle.writings.specs.Writing.{stopped, writing, encoding_in}
 use Rattle.writings.proofs.Turns.{refused-is, accepted-is}
+use Rattle.writings.specs.Come.{Come}
 use Rattle.writings.proofs.Come.{Ended}
 use Rattle.writer.specs.declared.Encoded.{Encoded}
 use Rattle.writer.specs.Encoded.{encoded_of}
-use Rattle.writer.proofs.Calls.{ended-answer}
+use Rattle.writer.proofs.Calls.{Called, called, over-written, ended-answer}
 
 -- the answer q, and the buffer
 abbrev pub Answers : Coding → ℕ → List ℕ → List ℕ → List ℕ → Encoded → Type 0
@@ -38,3 +41,10 @@ pub by-produced : (K : Coding) (f : ℕ) (l d₀ d : List ℕ) (q : Encoded) →
     → (q ≡ encoded_of (encoding_in K f (length d₀) l)) × (d ≡ (encoding_in K f (length d₀) l).written ++ drop q.produced d₀)
 unfolding encoded_of
 by-produced K f l d₀ d q (a, o) = (a, o ∙ ap (λ (x : Encoded). (encoding_in K f (length d₀) l).written ++ drop x.produced d₀) (sym a))
+
+-- the writer is called for the code at a place alone, into what is left of the buffer
+pub called-one : {F : Form} {m : Flags} {l d₀ d : List ℕ} {at n : ℕ} → Come F m l d₀ d at n → at < length l → (c : ℕ) → c ≡ get_or l at 0 → (q : Encoded) (p : List ℕ)
+    → q ≡ encoded_of (writing F m (length (mid_of n (length d - n) d)) (c ∷ []))
+    → p ≡ (writing F m (length (mid_of n (length d - n) d)) (c ∷ [])).written ++ drop q.produced (mid_of n (length d - n) d)
+    → Called F m l d₀ (put_mid n (length d - n) d p) at n q
+called-one {F} {m} {l} {d₀} {d} {at} {n} r h c e q p a o = called r h (c ∷ []) (rw (drop-cons l at 0 h, ← e) refl) q p (over-written _ _ _ _ (a, o))

@@ -1,9 +1,9 @@
-// The writer's leap over 32-bit codes: codes whose bytes are plain to see, as fast as they come, in front of the writer that takes every code.
+// The writer's leap over codes of any source: codes whose bytes are plain to see, as fast as they come, in front of the writer that takes every code.
 #![tactic(auto)]
 
-ghost use Rattle.std.specs.Prelude.{◌≡◌, false, ◌++◌, ℕ, ◌+◌, ◌%◌, ◌≤◌, ◌<◌, min, length, take, drop};
+ghost use Rattle.std.specs.Prelude.{◌≡◌, false, cond, ◌++◌, ℕ, ◌+◌, ◌%◌, ◌≤◌, ◌<◌, length, take, drop};
 ghost use Rattle.form.specs.Table.{Escape};
-ghost use Rattle.form.specs.Pattern.{pattern};
+ghost use Rattle.form.specs.Pattern.{pattern, cesu_pattern};
 ghost use Rattle.form.specs.Text.{sequence};
 ghost use Rattle.forms.specs.Forms.{rows_of};
 ghost use Rattle.writings.specs.Come.{Onward};
@@ -11,17 +11,14 @@ ghost use Rattle.writings.specs.Singled.{Ascii, Single, Singled};
 
 use flags::Flags;
 use forms::Form;
+use source::Source;
 
-fn lesser(a: usize, b: usize) -> usize
-    ensures { result ≡ min a b }
-{
-    if a < b { a } else { b }
-}
+const FIRST_SURROGATE: u32 = 0xD800;
 
 fn low(c: u32) -> u8
     ensures { result ≡ c % 256 }
 {
-    (c % 256) as u8
+    (c & 0xFF) as u8
 }
 
 // A byte after the first: the low six bits, below the mark.
@@ -58,58 +55,63 @@ fn put4(dst: &mut [u8], n: usize, c: u32)
     dst[n + 3] = mark(c);
 }
 
+// A pair of surrogates: the marks ED, and the upper and the lower ten bits of what is above FFFF.
+fn put6(dst: &mut [u8], n: usize, c: u32)
+    requires { (0x10000 ≤ c) × (c ≤ 0x10FFFF) × (n + 6 ≤ length dst.old) }
+    ensures { dst.new ≡ take n dst.old ++ cesu_pattern c ++ drop (n + 6) dst.old }
+{
+    let upper = (c - 0x10000) / 0x400;
+    let lower = (c - 0x10000) % 0x400;
+    dst[n] = 0xED;
+    dst[n + 1] = (0xA0 + upper / 0x40) as u8;
+    dst[n + 2] = mark(upper);
+    dst[n + 3] = 0xED;
+    dst[n + 4] = (0xB0 + lower / 0x40) as u8;
+    dst[n + 5] = mark(lower);
+}
+
+fn no_ascii(c: u32) -> bool
+    ensures { result ≡ false → Ascii c }
+{
+    0x80 <= c
+}
+
 // One of four codes is not ASCII.
 fn some_high(a: u32, b: u32, c: u32, d: u32) -> bool
     ensures { result ≡ false → Ascii a × (Ascii b × (Ascii c × Ascii d)) }
 {
-    if 0x80 <= a {
-        return true;
-    }
-    if 0x80 <= b {
-        return true;
-    }
-    if 0x80 <= c {
-        return true;
-    }
-    0x80 <= d
+    no_ascii(a) || no_ascii(b) || no_ascii(c) || no_ascii(d)
 }
 
-// A run of ASCII, one by one.
-fn ones_out(codes: &[u32], dst: &mut [u8]) -> usize
-    ensures { Singled Ascii codes.now dst.old dst.new result }
+// A run of codes of one byte each, up to one that ends it, one by one.
+fn singles_out<C: Source, E: Fn(u32) -> bool>(codes: &[C], dst: &mut [u8], ends: E) -> usize
+    requires { E.IsAlwaysCallable ends }
+    ensures { Singled (λ c. E.post ends c false) (C.codes codes.now) dst.old dst.new result }
 {
-    let end = lesser(codes.len(), dst.len());
-    let mut n: usize = 0;
-    'ones: loop {
-        if n == end {
-            break 'ones;
-        }
-        let c = codes[n];
-        if 0x80 <= c {
-            break 'ones;
+    let end = C::count(codes).min(dst.len());
+    for n in 0..end {
+        let c = C::get(codes, n);
+        if ends(c) {
+            return n;
         }
         dst[n] = low(c);
-        n += 1;
     }
-    n
+    end
 }
 
 // By fours.
-fn blocks_out(codes: &[u32], dst: &mut [u8]) -> usize
-    ensures { Singled Ascii codes.now dst.old dst.new result }
+fn blocks_out<C: Source>(codes: &[C], dst: &mut [u8]) -> usize
+    ensures { Singled Ascii (C.codes codes.now) dst.old dst.new result }
 {
-    let end = lesser(codes.len(), dst.len());
+    let end = C::count(codes).min(dst.len());
     let mut n: usize = 0;
-    'blocks: loop {
-        if end - n < 4 {
-            break 'blocks;
-        }
-        let a = codes[n];
-        let b = codes[n + 1];
-        let c = codes[n + 2];
-        let d = codes[n + 3];
+    while 4 <= end - n {
+        let a = C::get(codes, n);
+        let b = C::get(codes, n + 1);
+        let c = C::get(codes, n + 2);
+        let d = C::get(codes, n + 3);
         if some_high(a, b, c, d) {
-            break 'blocks;
+            break;
         }
         dst[n] = low(a);
         dst[n + 1] = low(b);
@@ -120,158 +122,123 @@ fn blocks_out(codes: &[u32], dst: &mut [u8]) -> usize
     n
 }
 
-// Where many codes are left, by fours.
-fn run_out(codes: &[u32], dst: &mut [u8]) -> usize
-    ensures { Singled Ascii codes.now dst.old dst.new result }
+// A run of ASCII, where many codes are left by fours.
+fn run_out<C: Source>(codes: &[C], dst: &mut [u8]) -> usize
+    ensures { Singled Ascii (C.codes codes.now) dst.old dst.new result }
 {
-    if codes.len() < 32 {
-        return ones_out(codes, dst);
+    if C::count(codes) < 32 {
+        singles_out(codes, dst, no_ascii)
+    } else {
+        blocks_out(codes, dst)
     }
-    blocks_out(codes, dst)
 }
 
 fn no_escape(c: u32) -> bool
     ensures { result ≡ false → Escape c }
 {
-    if c < 0xDC80 {
-        return true;
-    }
-    0xDCFF < c
+    c < 0xDC80 || 0xDCFF < c
 }
 
 fn no_single(c: u32) -> bool
     ensures { result ≡ false → Single c }
 {
-    if c < 0x80 {
-        return false;
-    }
-    no_escape(c)
+    0x80 <= c && no_escape(c)
 }
 
 // A run of escapes and ASCII.
-fn escapes_out(codes: &[u32], dst: &mut [u8]) -> usize
-    ensures { Singled Single codes.now dst.old dst.new result }
+fn escapes_out<C: Source>(codes: &[C], dst: &mut [u8]) -> usize
+    ensures { Singled Single (C.codes codes.now) dst.old dst.new result }
 {
-    let end = lesser(codes.len(), dst.len());
-    let mut n: usize = 0;
-    'ones: loop {
-        if n == end {
-            break 'ones;
-        }
-        let c = codes[n];
-        if no_single(c) {
-            break 'ones;
-        }
-        dst[n] = low(c);
-        n += 1;
-    }
-    n
+    singles_out(codes, dst, no_single)
 }
 
 // With one of these flags an escape is not its byte.
 fn careful(m: Flags) -> bool
     ensures { result ≡ false → (m.strict ≡ false) × (m.surro ≡ false) }
 {
-    if m.strict {
-        return true;
-    }
-    m.surro
+    m.strict || m.surro
 }
 
 // The form writes a code above FFFF as a pair of surrogates.
 fn has_pairs(form: Form) -> bool
-    ensures { result ≡ false → (c : ℕ) → 0xFFFF < c → c ≤ 0x10FFFF → sequence (rows_of form) c ≡ pattern c }
+    ensures { (c : ℕ) → 0xFFFF < c → c ≤ 0x10FFFF → sequence (rows_of form) c ≡ cond result (cesu_pattern c) (pattern c) }
 {
-    match form {
-        Form::Plain => false,
-        Form::Surro => false,
-        Form::Cesu => true,
-    }
+    matches!(form, Form::Cesu)
 }
 
 // The place that is reached: codes consumed and bytes written.
 #[derive(Clone, Copy)]
-pub struct Leapt {
+pub struct Place {
     pub at: usize,
     pub n: usize,
 }
 
-// From a place on, up to a code that is left to the writer: a surrogate that is not an escape, an escape with STRICT or SURRO, a pair, a code
-// above 10FFFF, or any where fewer than four bytes are free. Beyond the codes or the buffer it stays where it is.
-pub fn leap(
-    form: Form,
-    m: Flags,
-    codes: &[u32],
-    start: usize,
-    dst: &mut [u8],
-    begun: usize,
-) -> Leapt
-    ensures { Onward (rows_of form) m codes.now dst.old dst.new start begun result.at result.n }
+// From a place on, up to a code that is left to the writer: a surrogate that is not an escape, an escape with STRICT or SURRO, a code above
+// 10FFFF, or any where fewer than four bytes are free, for a pair six. Beyond the codes or the buffer it stays where it is.
+pub fn leap<C: Source>(form: Form, m: Flags, codes: &[C], dst: &mut [u8], from: Place) -> Place
+    ensures { Onward (rows_of form) m (C.codes codes.now) dst.old dst.new from.at from.n result.at result.n }
 {
-    let mut at = start;
-    let mut n = begun;
+    let Place { mut at, mut n } = from;
     if dst.len() < n {
-        return Leapt { at, n };
+        return from;
     }
-    'codes: loop {
-        if codes.len() <= at {
-            break 'codes;
-        }
-        if dst.len() - n < 4 {
-            break 'codes;
-        }
-        let c = codes[at];
+    let count = C::count(codes);
+    while at < count && 4 <= dst.len() - n {
+        let c = C::get(codes, at);
         if c < 0x80 {
             dst[n] = low(c);
             n += 1;
             at += 1;
-            let k = run_out(&codes[at..], &mut dst[n..]);
+            let k = run_out(C::rest(codes, at), &mut dst[n..]);
             at += k;
             n += k;
-            continue 'codes;
+            continue;
         }
         if c < 0x800 {
             put2(dst, n, c);
             n += 2;
             at += 1;
-            continue 'codes;
+            continue;
         }
-        if c < 0xD800 {
+        if c < FIRST_SURROGATE {
             put3(dst, n, c);
             n += 3;
             at += 1;
-            continue 'codes;
+            continue;
         }
         if 0xFFFF < c {
             if 0x10FFFF < c {
-                break 'codes;
+                break;
             }
             if has_pairs(form) {
-                break 'codes;
+                if dst.len() - n < 6 {
+                    break;
+                }
+                put6(dst, n, c);
+                n += 6;
+                at += 1;
+                continue;
             }
             put4(dst, n, c);
             n += 4;
             at += 1;
-            continue 'codes;
+            continue;
         }
         if 0xDFFF < c {
             put3(dst, n, c);
             n += 3;
             at += 1;
-            continue 'codes;
+            continue;
         }
-        if careful(m) {
-            break 'codes;
-        }
-        if no_escape(c) {
-            break 'codes;
+        if careful(m) || no_escape(c) {
+            break;
         }
         dst[n] = low(c);
         n += 1;
         at += 1;
-        let k = escapes_out(&codes[at..], &mut dst[n..]);
+        let k = escapes_out(C::rest(codes, at), &mut dst[n..]);
         at += k;
         n += k;
     }
-    Leapt { at, n }
+    Place { at, n }
 }
