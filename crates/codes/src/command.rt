@@ -2,10 +2,10 @@
 use crate::refusal::{Fault, Refusal};
 use std::env::{Env, FillError};
 
-pub const USAGE: &str = "usage: codes [--why] [FILE]\n       codes --help\n";
+pub(crate) const USAGE: &str = "usage: codes [--why] [FILE]\n       codes --help\n";
 
 // What the help says below the usage.
-pub const HELP: &str = "
+pub(crate) const HELP: &str = "
 Shows the codes of FILE, or of standard input, one line for each line:
 
     U+0034 U+0030 U+2032
@@ -25,7 +25,7 @@ empty, and standard error says why.
 ";
 
 #[derive(Clone, Copy)]
-pub enum Command<'a> {
+pub(crate) enum Command<'a> {
     Help,
     // Standard input is shown, with `why` also why its bytes are bad.
     ShowInput { why: bool },
@@ -47,7 +47,10 @@ fn is_why(rt: &HostRuntime) -> bool {
 }
 
 // The last argument is the one that counts, behind `--why` or alone. Std opens a path that is text, and no other.
-pub fn parse<'a>(rt: &HostRuntime, buffer: &'a mut [u8]) -> Result<Command<'a>, Refusal<'a>> {
+pub(crate) fn parse<'a>(
+    rt: &HostRuntime,
+    buffer: &'a mut [u8],
+) -> Result<Command<'a>, Refusal<'a>> {
     let why = is_why(rt);
     let last = if why { 2 } else { 1 };
     if !is_given(rt, last) {

@@ -4,10 +4,10 @@ ghost use Rattle.std.specs.Prelude.{◌≡◌, ◌≤◌, length};
 use crate::refusal::Fault;
 use std::io::Read;
 
-pub const LIMIT: usize = 1048576;
+pub(crate) const LIMIT: usize = 1048576;
 
 // The contract gives the length alone: a caller then never computes the zeros.
-pub fn input_buffer() -> [u8; LIMIT]
+pub(crate) fn input_buffer() -> [u8; LIMIT]
     ensures { LIMIT ≡ length result }
 {
     [0; LIMIT]
@@ -28,7 +28,10 @@ fn read_full<R: Read>(input: &mut R, buffer: &mut [u8]) -> usize
 }
 
 // The input has ended if there is no byte more.
-pub fn read_all<'a, R: Read>(input: &mut R, buffer: &'a mut [u8]) -> Result<&'a [u8], Fault> {
+pub(crate) fn read_all<'a, R: Read>(
+    input: &mut R,
+    buffer: &'a mut [u8],
+) -> Result<&'a [u8], Fault> {
     let done = read_full(input, buffer);
     match input.read(&mut [0; 1])? {
         0 => Ok(&buffer[..done]),

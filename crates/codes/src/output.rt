@@ -7,13 +7,13 @@ use std::io;
 use std::io::Write;
 
 #[derive(Drop)]
-pub struct Output<'a, P> {
+pub(crate) struct Output<'a, P> {
     to: &'a P,
     waiting: ArrayVec<u8, 4096>,
 }
 
 impl<'a, P: Print> Output<'a, P> {
-    pub fn new(to: &'a P) -> Output<'a, P> {
+    pub(crate) fn new(to: &'a P) -> Output<'a, P> {
         Output {
             to,
             waiting: ArrayVec::new(),

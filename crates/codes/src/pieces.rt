@@ -3,7 +3,7 @@ use std::fmt;
 
 // Some bytes, from a place of the text on.
 #[derive(Clone, Copy)]
-pub struct Piece<'a> {
+pub(crate) struct Piece<'a> {
     pub place: usize,
     pub bytes: &'a [u8],
     // None where they are a bad stretch.
@@ -28,7 +28,7 @@ impl fmt::Display for Piece<'_> {
 
 // The pieces from a place of the text up to an end.
 #[derive(Clone, Copy)]
-pub struct Pieces<'a> {
+pub(crate) struct Pieces<'a> {
     text: &'a [u8],
     place: usize,
     end: usize,
@@ -75,13 +75,13 @@ impl fmt::Display for Pieces<'_> {
 
 // The lines of a text, without their line feeds. A line feed is part of no other sequence, so that line by line the codes are those of the whole.
 #[derive(Clone, Copy)]
-pub struct Lines<'a> {
+pub(crate) struct Lines<'a> {
     text: &'a [u8],
     place: usize,
 }
 
 impl<'a> Lines<'a> {
-    pub fn new(text: &'a [u8]) -> Lines<'a> {
+    pub(crate) fn new(text: &'a [u8]) -> Lines<'a> {
         Lines { text, place: 0 }
     }
 }

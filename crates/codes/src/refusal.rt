@@ -10,7 +10,7 @@ use std::io::Write;
 use std::{fmt, io};
 
 #[derive(Debug, Drop)]
-pub enum Fault {
+pub(crate) enum Fault {
     // The command line is none of the synopsis.
     TooMany,
     EmptyName,
@@ -68,7 +68,7 @@ fn write_words<W: fmt::Write>(f: &mut fmt::Formatter<W>, error: &io::Error) -> f
 }
 
 impl Fault {
-    pub fn of(self, what: &[u8]) -> Refusal<'_> {
+    pub(crate) fn of(self, what: &[u8]) -> Refusal<'_> {
         Refusal { what, fault: self }
     }
 
@@ -82,14 +82,14 @@ impl Fault {
 
 // A fault, and what has it, by its bytes, since a name need not be text.
 #[derive(Debug, Drop)]
-pub struct Refusal<'a> {
+pub(crate) struct Refusal<'a> {
     what: &'a [u8],
     fault: Fault,
 }
 
 impl Refusal<'_> {
     // Nothing is told of a message that could not be written.
-    pub fn tell(&self, to: &impl Print) {
+    pub(crate) fn tell(&self, to: &impl Print) {
         let _ = self.write_to(&mut Output::new(to));
     }
 

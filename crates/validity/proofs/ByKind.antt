@@ -1,5 +1,6 @@
 -- The kind of a record, by its number, its layout and the test of that kind. Assumes nothing.
-use Rattle.std.proofs.Common.{◌≡◌, ℕ, ◌≤◌, ◌<◌, Bool, true, false, ◌&&◌, List, Some, None, Result, Ok, Err, length, take, drop, ltb, eqb, refl, sym, ap, ◌∙◌}
+use Rattle.std.proofs.Common.{◌≡◌, ℕ, ◌≤◌, ◌<◌, Bool, true, false, ◌&&◌, List, Option, Some, None, Result, Ok, Err, length, take, drop, ltb, eqb, refl, sym, ap, ◌∙◌}
+use Rattle.std.specs.Prelude.{cond}
 use Rattle.std.specs.Bool.{then_some}
 use Rattle.std.specs.List.{IsSplitAt}
 use Rattle.std.specs.Result.{result_ok}
@@ -9,7 +10,7 @@ use Rattle.state.specs.declared.Kind.{Kind}
 use Rattle.state.specs.declared.Kind.TheVariants.{Starting, Partial, Trail, Low, High}
 use Rattle.state.specs.declared.UnknownKind.{UnknownKind}
 use Rattle.state.specs.Kinds.{number_of, Numbered}
-use Rattle.state.specs.Meaning.{Meaning, starting, held, trail, low, high, valid, valid_if, part?, each, unit, meaning, sense}
+use Rattle.state.specs.Meaning.{Meaning, Sense, starting, held, trail, low, high, valid, valid_if, part?, each, unit, meaning, sense}
 use Rattle.state.proofs.Sense.{is_starting, is_held, is-trail, is_low, is-high, is_none, sense-beyond, sense-clear, sense-unclear}
 use Rattle.validity.specs.Validity.{kind_of}
 
@@ -71,3 +72,13 @@ module _ (F : Form) (n : ℕ) (places : List ℕ) where
 
     pub unclear : false ≡ each (0 to 0) unused → None ≡ kind_of (sense F k n places)
     unclear c = rw (sense-unclear F k n places within (clear_places false c)) refl
+
+-- ---- by a test of its own
+
+kind_by : (t : Bool) (m : Meaning) → kind_of (valid_if t m) ≡ cond t (kind_of (valid m)) None
+kind_by true m = refl
+kind_by false m = refl
+
+-- a result that is the kind of m where the test t holds
+pub by_test : (s : Sense) (r : Option Kind) (t u : Bool) (m : Meaning) → r ≡ cond t (kind_of (valid m)) None → t ≡ u → s ≡ valid_if u m → r ≡ kind_of s
+by_test s r t u m e f g = e ∙ ap (λ (v : Bool). cond v (kind_of (valid m)) None) f ∙ sym (ap kind_of g ∙ kind_by u m)
