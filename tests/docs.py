@@ -18,13 +18,15 @@ import sys
 TOP = pathlib.Path(__file__).resolve().parent.parent
 QUOTED = re.compile(r"`([^`\n]+)`")
 # Words in backquotes that the crates do not define: of the toolchain, of Rattle and of its logic.
-OTHER = {"rt", "requires", "ensures", "tt", "++"}
+OTHER = {"rt", "requires", "ensures", "tt", "++", "u8", "u32", "u8::from"}
 # What a line of Rattle defines, and what a line of definitions or proofs does: there also the fields and constructors.
-RATTLE = re.compile(r'^\s*(?:pub )?(?:extern "C" )?(?:fn|struct|enum|const) (\w+)', re.M)
+RATTLE = re.compile(r'^\s*(?:pub )?(?:extern "C" )?(?:fn|struct|enum|trait|const) (\w+)', re.M)
+VARIANT = re.compile(r"^    ([A-Z]\w*)(?: = \d+|\(.*\))?,$", re.M)
 ANTT = re.compile(
     r"^(?:  )?(?:  (?=pub ))?(?:(?:abbrev|unfoldable|pub|data|record) )*([^-\s(){}:=][^(){}:=\n]*?)(?: [({].*)? :", re.M
 )
 PUBLIC = re.compile(r'^\s*pub (?:extern "C" )?fn (\w+)')
+TRAIT = re.compile(r"^pub trait ", re.M)
 checked = 0
 wrong = []
 
@@ -102,7 +104,7 @@ def names():
     found = set(crates())
     for crate in crates():
         for path in code(crate):
-            found.update(RATTLE.findall(text(path)))
+            found.update(RATTLE.findall(text(path)), VARIANT.findall(text(path)))
         for path in definitions(crate) + proofs(crate):
             found.update(name for defined in ANTT.findall(text(path)) for name in defined.split())
     return found
@@ -229,7 +231,8 @@ def check_promises():
     sections = dict(zip(parts[1::2], parts[2::2]))
     for crate in crates():
         functions = set(public_functions(crate))
-        expect((crate in sections) == bool(functions or definitions(crate)), f"{document}: the section of {crate}")
+        traits = any(TRAIT.search(text(path)) for path in code(crate))
+        expect((crate in sections) == bool(functions or definitions(crate) or traits), f"{document}: the section of {crate}")
         told = set(re.findall(r"^- \*\*`([\w:]+)`", sections.get(crate, ""), re.M))
         expect(told == functions, f"{document}: the functions of {crate}: {sorted(told ^ functions)}")
 
