@@ -45,15 +45,12 @@ impl<'a> Iterator for Pieces<'a> {
     // A piece has a byte at least, so that the walk never stands still.
     fn next(&mut self) -> Option<Piece<'a>> {
         let rest = self.text.get(self.place..self.end)?;
-        if rest.is_empty() {
-            return None;
-        }
-        let item = item::item_of(rest);
-        let len = item.span.max(item.subpart).clamp(1, rest.len());
+        let item = item::item_of(rest)?;
+        let len = item.subpart.unwrap_or(item.span).clamp(1, rest.len());
         let piece = Piece {
             place: self.place,
             bytes: &rest[..len],
-            code: (item.subpart == 0).then_some(item.code),
+            code: item.subpart.is_none().then_some(item.code),
         };
         self.place += len;
         Some(piece)

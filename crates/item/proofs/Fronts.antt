@@ -6,7 +6,7 @@ use native.Mathlib.Omega.{arith}
 use lib.ListN.{length, get_or}
 use Rattle.form.specs.Table.{plain}
 use Rattle.form.specs.Scan.{Found, well, part, bad, scan}
-use Rattle.form.specs.Text.{stray, item}
+use Rattle.form.specs.Text.{Item, stray, item}
 use Rattle.straight.specs.declared.Straight.{Straight}
 use Rattle.straight.specs.Straight.{straight_of}
 use Rattle.straight.proofs.Laws.{well-told}
@@ -18,7 +18,7 @@ use Rattle.front.specs.Front.{Told, told, told_of}
 use Rattle.front.specs.declared.Front.{Front}
 use Rattle.front.specs.declared.Front.TheVariants.{Well, Partial, Bad}
 use Rattle.item.specs.declared.Leaf.{Leaf}
-use Rattle.item.specs.Leaf.{leaf, leaf_of, item_of}
+use Rattle.item.specs.Leaf.{leaf, leaf_of, leaf_span, item_of}
 
 -- one number is not another
 other : {A : Type 0} (f : Front) (x : Found) (n : ℕ) → told f ≡ told_of x n → ((told f).number ≡ (told_of x n).number → ⊥) → A
@@ -38,20 +38,20 @@ by_found (Partial n) b t (bad m) e = other (Partial n) (bad m) (suc (length t)) 
 by_found (Bad n) b t (well d m) e = other (Bad n) (well d m) (suc (length t)) e (λ z. omega arith)
 by_found (Bad n) b t part e = other (Bad n) part (suc (length t)) e (λ z. omega arith)
 
-pub by_front : (f : Front) (s : List ℕ) → 0 < length s → told f ≡ told_of (scan plain s) (length s) → leaf (item_of f (get_or s 0 0)) ≡ leaf_of s
+pub by_front : (f : Front) (s : List ℕ) → 0 < length s → told f ≡ told_of (scan plain s) (length s) → Some (leaf (item_of f (get_or s 0 0))) ≡ leaf_of s
 unfolding leaf_of
 by_front f [] h e = absurd (omega arith)
-by_front f (b ∷ t) h e = ap leaf (by_found f b t (scan plain (b ∷ t)) e)
+by_front f (b ∷ t) h e = ap (λ (i : Item). Some (leaf i)) (by_found f b t (scan plain (b ∷ t)) e)
 
 -- of no bytes
-pub leaf_none : (s : List ℕ) → length s ≡ 0 → ◌≡◌ {A = Leaf} (record { code = 0; span = 0; subpart = 0 }) (leaf_of s)
+pub leaf_none : (s : List ℕ) → length s ≡ 0 → None ≡ leaf_of s
 unfolding leaf_of
 leaf_none [] e = refl
 leaf_none (b ∷ s) e = absurd (omega arith)
 
 -- ---- in a straight line
 
-pub leaf_straight : (s : List ℕ) (q : Straight) → 0 < length s → Some q ≡ straight_of (scan plain s) → ◌≡◌ {A = Leaf} (record { code = q.code; span = q.len; subpart = 0 }) (leaf_of s)
+pub leaf_straight : (s : List ℕ) (q : Straight) → 0 < length s → Some q ≡ straight_of (scan plain s) → Some (record { code = q.code; span = q.len; subpart = None }) ≡ leaf_of s
 unfolding leaf_of
 leaf_straight [] q h e = absurd (omega arith)
 leaf_straight (b ∷ s) q h e =
@@ -60,23 +60,23 @@ leaf_straight (b ∷ s) q h e =
 
 -- ---- the span alone
 
-pub span_none : (s : List ℕ) → length s ≡ 0 → 0 ≡ (leaf_of s).span
+pub span_none : (s : List ℕ) → length s ≡ 0 → 0 ≡ leaf_span (leaf_of s)
 unfolding leaf_of
 span_none [] e = refl
 span_none (b ∷ s) e = absurd (omega arith)
 
 -- a byte below 80 is an item by itself
-pub span-ascii : (s : List ℕ) → 0 < length s → get_or s 0 0 < 0x80 → 1 ≡ (leaf_of s).span
+pub span-ascii : (s : List ℕ) → 0 < length s → get_or s 0 0 < 0x80 → 1 ≡ leaf_span (leaf_of s)
 unfolding leaf_of
 span-ascii [] h l = absurd (omega arith)
 span-ascii (b ∷ s) h l = rw (form_ascii Plain b s l) refl
 
 -- else it has the bytes of a sequence
-pub span_straight : (s : List ℕ) (q : Straight) → 0 < length s → Some q ≡ straight_of (scan plain s) → q.len ≡ (leaf_of s).span
-span_straight s q h e = ap (λ (r : Leaf). r.span) (leaf_straight s q h e)
+pub span_straight : (s : List ℕ) (q : Straight) → 0 < length s → Some q ≡ straight_of (scan plain s) → q.len ≡ leaf_span (leaf_of s)
+span_straight s q h e = ap leaf_span (leaf_straight s q h e)
 
 -- or one
-pub span_lost : (s : List ℕ) → 0 < length s → None ≡ straight_of (scan plain s) → 1 ≡ (leaf_of s).span
+pub span_lost : (s : List ℕ) → 0 < length s → None ≡ straight_of (scan plain s) → 1 ≡ leaf_span (leaf_of s)
 unfolding leaf_of
 span_lost [] h e = absurd (omega arith)
 span_lost (b ∷ s) h e = go (scan plain (b ∷ s)) e

@@ -3,17 +3,17 @@
 
 ghost use Rattle.std.specs.Prelude.{◌≡◌};
 ghost use Rattle.form.specs.Text.{escape};
-ghost use Rattle.item.specs.Leaf.{leaf, leaf_of, item_of};
+ghost use Rattle.item.specs.Leaf.{leaf, leaf_of, leaf_span, item_of};
 
 use forms::Form;
 use front::Front;
 
-// A code and how many bytes it takes; where it is an escape, the length of the maximal subpart that its byte begins, else 0.
+// A code and how many bytes it takes; where it is an escape, the length of the maximal subpart that its byte begins.
 #[derive(Clone, Copy)]
 pub struct Leaf {
     pub code: u32,
     pub span: usize,
-    pub subpart: usize,
+    pub subpart: Option<usize>,
 }
 
 fn escaped(b: u8) -> u32
@@ -30,46 +30,42 @@ fn of_front(f: Front, b: u8) -> Leaf
         Front::Well(c, n) => Leaf {
             code: c,
             span: n,
-            subpart: 0,
+            subpart: None,
         },
         Front::Partial(n) => Leaf {
             code: escaped(b),
             span: 1,
-            subpart: n,
+            subpart: Some(n),
         },
         Front::Bad(n) => Leaf {
             code: escaped(b),
             span: 1,
-            subpart: n,
+            subpart: Some(n),
         },
     }
 }
 
-// A sequence in a straight line, and else what a walk finds. Of no bytes: no item, all zero.
-pub fn item_of(s: &[u8]) -> Leaf
+// A sequence in a straight line, and else what a walk finds. Of no bytes there is no item.
+pub fn item_of(s: &[u8]) -> Option<Leaf>
     ensures { result ≡ leaf_of s.now }
 {
-    if s.len() == 0 {
-        return Leaf {
-            code: 0,
-            span: 0,
-            subpart: 0,
-        };
+    if s.is_empty() {
+        return None;
     }
-    match straight::straight_of(Form::Plain, s) {
+    Some(match straight::straight_of(Form::Plain, s) {
         Some(q) => Leaf {
             code: q.code,
             span: q.len,
-            subpart: 0,
+            subpart: None,
         },
         None => of_front(front::front_of(Form::Plain, s), s[0]),
-    }
+    })
 }
 
-// How many bytes that item takes, which a straight line tells: those of a well-formed sequence, or else one.
+// How many bytes that item takes, which a straight line tells: those of a well-formed sequence, or else one; of no bytes none.
 #[tactic(auto, using(crate::proofs::Fronts::spans))]
 pub fn span_of(s: &[u8]) -> usize
-    ensures { result ≡ (leaf_of s.now).span }
+    ensures { result ≡ leaf_span (leaf_of s.now) }
 {
     if s.len() == 0 {
         return 0;

@@ -8,8 +8,8 @@ use Rattle.std.specs.Prelude.{fold}
 use Rattle.form.specs.Table.{plain}
 use Rattle.form.specs.Text.{Item, span, items, places}
 use Rattle.bounds.specs.Cover.{place}
-use Rattle.item.specs.Leaf.{leaf_of}
-use Rattle.item.proofs.Here.{here-part}
+use Rattle.item.specs.Leaf.{leaf_of, leaf_span}
+use Rattle.item.proofs.Here.{here_span}
 use Rattle.std.specs.Iterator.{YieldsFirst}
 use Rattle.std.proofs.lemmas.Iterator.{YieldsList}
 use Rattle.std.proofs.lemmas.Iterator.Consumers.{YieldsList-from_shown}
@@ -23,13 +23,12 @@ pub record Next (s : List ℕ) (at n : ℕ) : Type 0 where
   pub extents_are : extents_from s at ≡ record { start = at; end = at + n } ∷ extents_from s (at + n)
 
 -- as a caller has it of `&s[at..]`
-pub next_part : (s : List ℕ) (at n : ℕ) → at < length s → n ≡ (leaf_of (take (length s - at) (drop at s))).span → Next s at n
+pub next_part : (s : List ℕ) (at n : ℕ) → at < length s → n ≡ leaf_span (leaf_of (take (length s - at) (drop at s))) → Next s at n
 unfolding extents_from
 next_part s at n h e =
-    let r = leaf_of (take (length s - at) (drop at s)) in
-    let H = here-part s at r h refl in
+    let (r, (H, z)) = here_span s at n h e in
     let tail : ℕ → List Extent = λ k. record { start = at; end = at + k } ∷ extents (at + k) (items plain 0 (drop (at + r.span) s)) in
-    rw e (record { within = H.within; extents_are = ap (extents at) H.items_are ∙ ap tail (sym H.span_is) })
+    rw z (record { within = H.within; extents_are = ap (extents at) H.items_are ∙ ap tail (sym H.span_is) })
 
 pub extents-none : (s : List ℕ) (at : ℕ) → length s ≤ at → extents_from s at ≡ []
 unfolding extents_from

@@ -6,7 +6,7 @@ use Rattle.std.proofs.lemmas.Iterator.Consumers.{YieldsList-from_first}
 use Rattle.std.proofs.lemmas.Iterator.Search.{find_from_yields_List}
 use Rattle.walk.specs.Walk.{ahead, extents_from}
 use Rattle.walk.specs.declared.Extent.{Extent}
-use Rattle.cover.proofs.Walk.{none_past, inside, some_past}
+use Rattle.cover.proofs.Walk.{none_past, inside, some_past, some_there}
 use Rattle.cover.proofs.cover_in.Goals as goal
 use Rattle.cover.proofs.cover_in.Goals.{After-find}
 
@@ -27,6 +27,12 @@ pub slice_bounds-item_of-start : goal.slice_bounds-item_of-start
 slice_bounds-item_of-start c =
     omega (arith, inside c.args.w.now c.args.p c.in_ok-start.field-0 (sym c.in_ok-start.was ∙ picked (goal.at.slice_bounds-item_of-start c).After-find))
 
+pub returns-in_err-item : goal.returns-in_err-item
+returns-in_err-item c =
+    absurd
+    (some_there c.args.w.now c.args.p c.in_ok-start.field-0 (sym c.in_ok-start.was ∙ picked (goal.at.returns-in_err-item c).After-find)
+    (sym c.in_err-item.was ∙ c.item_of.ensures))
+
 pub returns : goal.returns
 returns c =
-    some_past c.args.w.now c.args.p c.in_ok-start.field-0 (sym c.in_ok-start.was ∙ picked (goal.at.returns c).After-find) c.item_of-item.result c.item_of-item.ensures
+    some_past c.args.w.now c.args.p c.in_ok-start.field-0 (sym c.in_ok-start.was ∙ picked (goal.at.returns c).After-find) c.in_ok-item.item c.in_ok-item.ensures
