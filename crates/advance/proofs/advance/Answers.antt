@@ -45,7 +45,7 @@ returns-in-Some-Low c =
 pub returns-in-Some-High : goal.returns-in-Some-High
 returns-in-Some-High c =
     elim c.in-Some-High-1.branch [
-      in-Some+in-High-1 w ↦
+      | in-Some+in-High-1 w ↦
           let e : c.kind_of.result ≡ Some High = search rules in
           let (u, h) = told_is _ (Some High) _ e c.kind_of.ensures in
           subst (Advances (rows_of c.args.form) c.args.s c.args.input.now) (sym c.done.ensures) (from-high (form_scans c.args.form) c.args.s c.args.input.now u h)
