@@ -9,7 +9,7 @@ ghost use Rattle.log_update.specs.Refusal.{number_of};
 
 use log_records::{EVERY, RECORD};
 
-// The records do not fit; or an old length or old records that are not there.
+// The records do not fit; or what was asked for is not there: an old length, old records, a code, a byte.
 #[derive(Clone, Copy, Debug, PartialEq, Eq)]
 pub enum Refusal {
     NoRoom,

@@ -165,7 +165,7 @@ impl<'a> TryFrom<&'a [u8]> for HexBytes<'a> {
 pub(crate) struct HexCodes<'a>(&'a [u8]);
 
 impl HexCodes<'_> {
-    // The same of codes.
+    // How many codes they are, as many as fit. They stand in the buffer then.
     pub(crate) fn put_into(self, out: &mut [u32]) -> usize
         ensures { IsPrefixLen result out.new }
     {

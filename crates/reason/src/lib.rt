@@ -78,7 +78,7 @@ fn judge(s: &[u8]) -> Reason
     }
 }
 
-// The reason at a place: good at a good place, the end at or past it.
+// The reason at a place: Good where a sequence starts, AtEnd at or past the end.
 #[tactic(auto, using(crate::proofs::Told::told_end, crate::proofs::Told::told_found))]
 pub fn reason_of(s: &[u8], place: usize) -> Reason
     ensures { result ≡ reason s.now place }
