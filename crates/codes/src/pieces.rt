@@ -45,6 +45,9 @@ impl<'a> Iterator for Pieces<'a> {
     // A piece has a byte at least, so that the walk never stands still.
     fn next(&mut self) -> Option<Piece<'a>> {
         let rest = self.text.get(self.place..self.end)?;
+        if rest.is_empty() {
+            return None;
+        }
         let item = item::item_of(rest)?;
         let len = item.subpart.unwrap_or(item.span).clamp(1, rest.len());
         let piece = Piece {
