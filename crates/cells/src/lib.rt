@@ -1,10 +1,10 @@
 // What codes are laid into, one behind another.
 #![tactic(auto)]
 
-ghost use Rattle.std.specs.Prelude.{◌≡◌, List, ℕ, [], ◌∷◌, ◌++◌, ◌+◌, ◌*◌, ◌/◌, ◌^◌, ◌≤◌, ◌<◌, length, take, drop};
+ghost use Rattle.std.specs.Prelude.{◌≡◌, List, ℕ, [], ◌∷◌, ◌++◌, ◌+◌, ◌*◌, ◌/◌, ◌%◌, ◌^◌, ◌≤◌, ◌<◌, length, take, drop};
 ghost use Rattle.numbers.specs.Number.{laid_in};
-ghost use Rattle.readings.specs.Come.{as_is, Layout};
-ghost use Rattle.readings.proofs.Come.{cells, packed};
+ghost use Rattle.readings.specs.Come.{as_is, Layout, Rooms};
+ghost use Rattle.readings.proofs.Come.{cells, packed, cell-rooms, packed-rooms};
 
 // A cell of a buffer for codes: a code of 32 bits, or one of its four bytes, low byte first.
 pub trait Cell: Copy {
@@ -15,21 +15,22 @@ pub trait Cell: Copy {
 
     ghost room: { ℕ → ℕ };
 
-    // The cells that so many codes take.
+    // The cells that so many codes take, as a number of 64 bits: no buffer has more.
     fn cells(codes: usize) -> usize
-        requires { cells codes < 2 ^ 64 }
-        ensures { result ≡ cells codes };
+        ensures { result ≡ cells codes % 2 ^ 64 };
 
     // The codes that so many cells have room for.
     fn room(len: usize) -> usize
         ensures { result ≡ room len };
 
-    // A code is put where the nth stands.
+    // A code is put where the nth stands; where there is no room for it, all stays as it is.
     fn put(codes: &mut [Self], n: usize, code: u32)
-        requires { cells n + cells 1 ≤ length codes.old }
-        ensures { codes.new ≡ take (cells n) codes.old ++ lay (code ∷ []) ++ drop (cells n + cells 1) codes.old };
+        ensures inside { cells n + cells 1 ≤ length codes.old → codes.new ≡ take (cells n) codes.old ++ lay (code ∷ []) ++ drop (cells n + cells 1) codes.old }
+        ensures beyond { length codes.old < cells n + cells 1 → codes.new ≡ codes.old };
 
-    ghost laws: { Layout lay cells room };
+    ghost laws: { Layout lay cells };
+
+    ghost rooms: { Rooms cells room };
 }
 
 impl Cell for u32 {
@@ -41,6 +42,8 @@ impl Cell for u32 {
 
     ghost laws = { cells };
 
+    ghost rooms = { cell-rooms };
+
     fn cells(codes: usize) -> usize {
         codes
     }
@@ -50,7 +53,9 @@ impl Cell for u32 {
     }
 
     fn put(codes: &mut [u32], n: usize, code: u32) {
-        codes[n] = code;
+        if n < codes.len() {
+            codes[n] = code;
+        }
     }
 }
 
@@ -63,8 +68,10 @@ impl Cell for u8 {
 
     ghost laws = { packed };
 
+    ghost rooms = { packed-rooms };
+
     fn cells(codes: usize) -> usize {
-        codes * 4
+        codes.wrapping_mul(4)
     }
 
     fn room(len: usize) -> usize {
@@ -72,11 +79,13 @@ impl Cell for u8 {
     }
 
     fn put(codes: &mut [u8], n: usize, code: u32) {
-        let at = n * 4;
-        let [a, b, c, d] = code.to_le_bytes();
-        codes[at] = a;
-        codes[at + 1] = b;
-        codes[at + 2] = c;
-        codes[at + 3] = d;
+        if n < codes.len() / 4 {
+            let at = n * 4;
+            let [a, b, c, d] = code.to_le_bytes();
+            codes[at] = a;
+            codes[at + 1] = b;
+            codes[at + 2] = c;
+            codes[at + 3] = d;
+        }
     }
 }

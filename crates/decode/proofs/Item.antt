@@ -11,7 +11,7 @@ use Rattle.form.specs.Table.{Form}
 use Rattle.codings.specs.declared.Coding.{Coding}
 use Rattle.codings.specs.Codings.{reader_form, reader_refuses_in}
 use Rattle.readings.specs.Reading.{Reading, stopped, reading, decoding_in}
-use Rattle.readings.specs.Come.{Layout, Come}
+use Rattle.readings.specs.Come.{Layout, Rooms, Come}
 use Rattle.readings.proofs.Readings.{accepted, refused_nothing}
 use Rattle.readings.proofs.Come.{none-empty, holds-rest, come_same, come-room}
 use Rattle.readings.proofs.Theorems.{reading-within}
@@ -50,19 +50,19 @@ one F m s room q z l g h e f =
       a_code = λ x. rw (o, append_assoc R.codes (drop q.produced (take room z)) (drop room z)) (first R.codes _ (omega arith));
     }
 
-module _ {A : Type 0} {lay : List ℕ → List A} {w holds : ℕ → ℕ} (L : Layout lay w holds) where
+module _ {A : Type 0} {lay : List ℕ → List A} {w : ℕ → ℕ} (L : Layout lay w) where
   -- an item that is read into the rest of a buffer, `&mut codes[cell..]`
-  pub item_read : {F : Form} {m : Flags} {s : List ℕ} {d₀ d : List A} {at n : ℕ} (r : Come lay F m s d₀ d at n) (cell : ℕ) → cell ≡ w n → (q : Decoded) (p : List A)
+  pub item_read : {holds : ℕ → ℕ} (H : Rooms w holds) {F : Form} {m : Flags} {s : List ℕ} {d₀ d : List A} {at n : ℕ} (r : Come lay F m s d₀ d at n) (cell : ℕ) → cell ≡ w n → (q : Decoded) (p : List A)
       → q ≡ decoded_of (reading F m (min (holds (length (mid_of cell (length d - cell) d))) 1) (take (length s - at) (drop at s)))
       → Filled (mid_of cell (length d - cell) d) p (lay (reading F m (min (holds (length (mid_of cell (length d - cell) d))) 1) (take (length s - at) (drop at s))).codes)
       → Item lay F m (holds (length d₀)) s d₀ (put_mid cell (length d - cell) d p) at n q
-  item_read {F} {m} {s} {d₀} {d} {at} {n} r cell z q p e f =
+  item_read {holds} H {F} {m} {s} {d₀} {d} {at} {n} r cell z q p e f =
       let h = come-room L r in
       let u : length (mid_of (w n) (length d - w n) d) ≡ length d₀ - w n = ap length (part_to_end d (w n)) ∙ length-drop (w n) d ∙ ap (λ (k : ℕ). k - w n) (come_same L r) in
       let v : min (holds (length (mid_of (w n) (length d - w n) d))) 1 ≡ min (holds (length d₀) - n) 1 =
-      ap (λ (k : ℕ). min (holds k) 1) u ∙ ap (λ (k : ℕ). min k 1) (holds-rest L n (length d₀) h)
+      ap (λ (k : ℕ). min (holds k) 1) u ∙ ap (λ (k : ℕ). min k 1) (holds-rest L H n (length d₀) h)
       in
-      rw z (item_lent L r (holds (length d₀)) (L.most n (length d₀) h) _ v q p (rw z at e) (rw z at f))
+      rw z (item_lent L r (holds (length d₀)) (H.most n (length d₀) h) _ v q p (rw z at e) (rw z at f))
 
   module _ (K : Coding) (f room : ℕ) (s : List ℕ) where
     pub answered : (F : Form) (m : Flags) (d₀ d : List A) (q : Decoded) → reader_refuses_in K f ≡ false → m ≡ flags_of f → F ≡ reader_form K m

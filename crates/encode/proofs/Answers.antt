@@ -3,7 +3,7 @@ use mathlib.Core.Path.{◌≡◌, refl, sym, ap, ◌∙◌}
 use mathlib.Core.Bool.{true, false}
 use mathlib.Core.List.{List, [], ◌∷◌, ◌++◌}
 use Prim.Native.Nat.{ℕ, ◌-◌, ◌<◌}
-use lib.ListN.{length, get_or, drop}
+use lib.ListN.{length, get_or, take, drop}
 use lib.Seq.{drop-cons}
 use borrow.Rule.Slice.PartMut.{mid_of, put_mid}
 use Rattle.flags.specs.declared.Flags.{Flags}
@@ -42,9 +42,13 @@ pub by-produced : (K : Coding) (f : ℕ) (l d₀ d : List ℕ) (q : Encoded) →
 unfolding encoded_of
 by-produced K f l d₀ d q (a, o) = (a, o ∙ ap (λ (x : Encoded). (encoding_in K f (length d₀) l).written ++ drop x.produced d₀) (sym a))
 
--- the writer is called for the code at a place alone, into what is left of the buffer
-pub called-one : {F : Form} {m : Flags} {l d₀ d : List ℕ} {at n : ℕ} → Come F m l d₀ d at n → at < length l → (c : ℕ) → c ≡ get_or l at 0 → (q : Encoded) (p : List ℕ)
-    → q ≡ encoded_of (writing F m (length (mid_of n (length d - n) d)) (c ∷ []))
-    → p ≡ (writing F m (length (mid_of n (length d - n) d)) (c ∷ [])).written ++ drop q.produced (mid_of n (length d - n) d)
+-- a code by itself
+pub one_taken : (l : List ℕ) (at : ℕ) → at < length l → (c : ℕ) → c ≡ get_or l at 0 → c ∷ [] ≡ take 1 (drop at l)
+one_taken l at h c e = rw (drop-cons l at 0 h, ← e) refl
+
+-- the writer is called for it alone, into what is left of the buffer
+pub called-one : {F : Form} {m : Flags} {l d₀ d : List ℕ} {at n : ℕ} → Come F m l d₀ d at n → at < length l → (c : ℕ) → c ≡ get_or l at 0 → (t : List ℕ) → t ≡ c ∷ [] → (q : Encoded) (p : List ℕ)
+    → q ≡ encoded_of (writing F m (length (mid_of n (length d - n) d)) t)
+    → p ≡ (writing F m (length (mid_of n (length d - n) d)) t).written ++ drop q.produced (mid_of n (length d - n) d)
     → Called F m l d₀ (put_mid n (length d - n) d p) at n q
-called-one {F} {m} {l} {d₀} {d} {at} {n} r h c e q p a o = called r h (c ∷ []) (rw (drop-cons l at 0 h, ← e) refl) q p (over-written _ _ _ _ (a, o))
+called-one {F} {m} {l} {d₀} {d} {at} {n} r h c e t g q p a o = called r h t (g ∙ one_taken l at h c e) q p (over-written _ _ _ _ (a, o))

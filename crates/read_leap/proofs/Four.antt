@@ -1,16 +1,17 @@
 -- Bytes by fours. Assumes nothing.
-use mathlib.Core.Path.{◌≡◌, refl, sym}
+use mathlib.Core.Path.{◌≡◌, refl, sym, ap, ◌∙◌}
 use mathlib.Core.Bool.{Bool, true, false, ◌&&◌, true≢false}
-use mathlib.Core.List.{List, [], ◌∷◌, map}
-use Prim.Native.Nat.{ℕ, zero, suc, ◌+◌, ◌≤◌, ◌<◌}
+use mathlib.Core.List.{List, [], ◌∷◌, ◌++◌, map, append-nil, append_assoc}
+use Prim.Native.Nat.{ℕ, zero, suc, ◌+◌, ◌-◌, ◌≤◌, ◌<◌}
 use native.Mathlib.Numerals.{add-one}
 use native.Mathlib.Omega.{arith}
 use lib.Dec.{ltb}
 use lib.ListN.{length, get_or, take, drop}
-use lib.Seq.{drop-cons}
+use lib.Seq.{drop-cons, drop-length}
+use borrow.Rule.Slice.PartMut.{mid_of, put_mid, mid_len, Post-is}
 use borrow.Author.Tests.{ltb-true}
-use Rattle.readings.specs.Come.{single}
-use Rattle.readings.proofs.Come.{single-ascii}
+use Rattle.readings.specs.Come.{Layout, single}
+use Rattle.readings.proofs.Come.{single-ascii, puts-front}
 
 -- four bytes below 80 are their own codes
 pub record Four (a b c d : ℕ) : Type 0 where
@@ -52,3 +53,15 @@ four_taken s n h =
   where
     byte : (i : ℕ) → i < length s → drop i s ≡ get_or s i 0 ∷ drop (i + 1) s
     byte i l = rw (add-one i) (drop-cons s i 0 l)
+
+-- codes that are put into a part of a buffer that holds just them, `&mut d[w n..w n + w k]`
+pub puts_lent : {A : Type 0} {lay : List ℕ → List A} {w : ℕ → ℕ} (L : Layout lay w) (d q : List A) (n k : ℕ) (xs : List ℕ) → length xs ≡ k → w n + w k ≤ length d
+    → w 0 + w (length xs) ≤ length (mid_of (w n) (w n + w k - w n) d)
+    → q ≡ take (w 0) (mid_of (w n) (w n + w k - w n) d) ++ lay xs ++ drop (w 0 + w (length xs)) (mid_of (w n) (w n + w k - w n) d)
+    → put_mid (w n) (w n + w k - w n) d q ≡ take (w n) d ++ lay xs ++ drop (w n + w k) d
+puts_lent {A} {lay} {w} L d q n k xs e h l f =
+    let s = mid_of (w n) (w n + w k - w n) d in
+    let m : length s ≡ w k = mid_len (w n) (w n + w k) d (omega arith) ∙ (let z : w n + w k - w n ≡ w k = omega arith in z) in
+    let y : length (lay xs) ≡ length s = L.lengths xs ∙ ap w e ∙ sym m in
+    let g : q ≡ lay xs = (puts-front L s q xs l f).front ∙ rw (y, drop-length s) (append-nil (lay xs)) in
+    rw (g, Post-is (w n) (w n + w k) d (omega arith)) (sym (append_assoc (take (w n) d) (lay xs) (drop (w n + w k) d)))

@@ -63,7 +63,7 @@ module _ (f : Form) (m : Flags) where
         go (yes h) = turn-ascii b t h
         go (no h) = let (n, e) = sure_bad f b t g l z in rw (single-escape b (omega arith)) (turn-bad (rows_of f) m b t n p q e)
 
-  module _ {A : Type 0} {lay : List ℕ → List A} {w holds : ℕ → ℕ} (L : Layout lay w holds) (s : List ℕ) (d₀ d : List A) (r : ℕ) where
+  module _ {A : Type 0} {lay : List ℕ → List A} {w : ℕ → ℕ} (L : Layout lay w) (s : List ℕ) (d₀ d : List A) (r : ℕ) where
     pub ascii-come : Singles lay 0x80 0 s d₀ d r → Come lay (rows_of f) m s d₀ d r r
     ascii-come S = singles-come L S turn-ascii (λ j g h. absurd (omega arith))
 

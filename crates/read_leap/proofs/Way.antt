@@ -39,7 +39,7 @@ back d k q = put_mid k (length d - k) d q
 part_length : {A : Type 0} (d : List A) (k : ℕ) → length (part d k) ≡ length d - k
 part_length d k = ap length (part_to_end d k) ∙ length-drop k d
 
-module _ {A : Type 0} {lay : List ℕ → List A} {w holds : ℕ → ℕ} (L : Layout lay w holds) where
+module _ {A : Type 0} {lay : List ℕ → List A} {w : ℕ → ℕ} (L : Layout lay w) where
   pub way-start : (f : Form) (care : Bool) (s : List ℕ) (d : List A) (at n : ℕ) → w n ≤ length d → Way lay w f care s d d at n at n
   way-start f care s d at n h = record { room = h; same = refl; onward = λ m e. onward-start L (rows_of f) m s d at n }
 

@@ -11,7 +11,7 @@ use flags::Flags;
 use forms::Form;
 
 // Where fewer bytes are left, a run is read byte by byte: a short line is not worth more.
-const MANY: usize = 32;
+pub const MANY: usize = 32;
 
 // A place in the bytes and in the codes.
 #[derive(Clone, Copy)]
@@ -35,14 +35,17 @@ fn ones<C: Cell>(s: &[u8], codes: &mut [C]) -> usize
     end
 }
 
+// Into a slice whose length the compiler knows: it then drops the tests of the room.
 fn put_four<C: Cell>(codes: &mut [C], n: usize, a: u8, b: u8, c: u8, d: u8)
     requires { C.cells n + C.cells 4 ≤ length codes.old }
     ensures { codes.new ≡ take (C.cells n) codes.old ++ C.lay (a ∷ b ∷ c ∷ d ∷ []) ++ drop (C.cells n + C.cells 4) codes.old }
 {
-    C::put(codes, n, u32::from(a));
-    C::put(codes, n + 1, u32::from(b));
-    C::put(codes, n + 2, u32::from(c));
-    C::put(codes, n + 3, u32::from(d));
+    let first = C::cells(n);
+    let four = &mut codes[first..first + C::cells(4)];
+    C::put(four, 0, u32::from(a));
+    C::put(four, 1, u32::from(b));
+    C::put(four, 2, u32::from(c));
+    C::put(four, 3, u32::from(d));
 }
 
 // An ASCII byte, and then four at a time.

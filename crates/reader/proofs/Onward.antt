@@ -32,7 +32,7 @@ pub record Item {A : Type 0} (lay : List ℕ → List A) (F : Form) (m : Flags) 
       → Answers lay F m room s d₀ d (record { number = q.number; consumed = at + q.consumed; produced = n + q.produced; subpart = q.subpart })
   pub goes_on : q.number ≡ 1 → (n + q.produced ≡ room → ⊥) → Come lay F m s d₀ d (at + q.consumed) (n + q.produced) × (n < n + q.produced)
 
-module _ {A : Type 0} {lay : List ℕ → List A} {w holds : ℕ → ℕ} (L : Layout lay w holds) {F : Form} {m : Flags} {s : List ℕ} {d₀ d : List A} {at n : ℕ} (r : Come lay F m s d₀ d at n) (room : ℕ)
+module _ {A : Type 0} {lay : List ℕ → List A} {w : ℕ → ℕ} (L : Layout lay w) {F : Form} {m : Flags} {s : List ℕ} {d₀ d : List A} {at n : ℕ} (r : Come lay F m s d₀ d at n) (room : ℕ)
     (h : n ≤ room)
   where
     -- where no bytes are left the reading has ended

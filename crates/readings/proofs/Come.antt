@@ -21,7 +21,7 @@ use Rattle.form.specs.Table.{Form}
 use Rattle.form.specs.Scan.{well, bad, scan}
 use Rattle.form.specs.Text.{escape}
 use Rattle.readings.specs.Reading.{convert, turn, stopped, follow, reading}
-use Rattle.readings.specs.Come.{as_is, Layout, Converts, Come, Onward, single, Singles}
+use Rattle.readings.specs.Come.{as_is, Layout, Rooms, Converts, Come, Onward, single, Singles}
 use Rattle.readings.proofs.Readings.{reading-stop, reading-convert, follow-follow, follow-none, turn-found, turn-within, by-places}
 use Rattle.readings.proofs.Theorems.{resume, reading-within, reading-more}
 
@@ -71,32 +71,20 @@ single-escape b h = rw (le-ltb b 0x80 h) refl
 -- ---- codes in a buffer
 
 -- a code is one cell
-pub cells : Layout as_is (λ n. n) (λ k. k)
-cells =
-    record {
-      empty = refl;
-      lengths = λ l. refl;
-      adds = λ n i. refl;
-      joins = λ a b. refl;
-      covers = λ n. omega arith;
-      fits = λ n k h. h;
-      most = λ n k h. h;
-    }
+pub cells : Layout as_is (λ n. n)
+cells = record { empty = refl; lengths = λ l. refl; adds = λ n i. refl; joins = λ a b. refl }
+
+pub cell-rooms : Rooms (λ n. n) (λ k. k)
+cell-rooms = record { covers = λ n. omega arith; fits = λ n k h. h; most = λ n k h. h }
 
 -- a code is four bytes, low byte first
-pub packed : Layout (laid_in 4) (λ n. n * 4) (λ k. k / 4)
-packed =
-    record {
-      empty = refl;
-      lengths = laid-length 4;
-      adds = λ n i. omega arith;
-      joins = laid-append 4;
-      covers = λ n. omega arith;
-      fits = λ n k h. omega arith;
-      most = λ n k h. omega arith;
-    }
+pub packed : Layout (laid_in 4) (λ n. n * 4)
+packed = record { empty = refl; lengths = laid-length 4; adds = λ n i. omega arith; joins = laid-append 4 }
 
-module _ {A : Type 0} {lay : List ℕ → List A} {w holds : ℕ → ℕ} (L : Layout lay w holds) where
+pub packed-rooms : Rooms (λ n. n * 4) (λ k. k / 4)
+packed-rooms = record { covers = λ n. omega arith; fits = λ n k h. omega arith; most = λ n k h. omega arith }
+
+module _ {A : Type 0} {lay : List ℕ → List A} {w : ℕ → ℕ} (L : Layout lay w) where
   -- codes that are put behind others are put with them
   pub puts-join : (d p q : List A) (n k : ℕ) (xs ys : List ℕ) → k ≡ n + length xs → w n + w (length xs + length ys) ≤ length d
       → p ≡ take (w n) d ++ lay xs ++ drop (w n + w (length xs)) d → q ≡ take (w k) p ++ lay ys ++ drop (w k + w (length ys)) p
@@ -119,15 +107,15 @@ module _ {A : Type 0} {lay : List ℕ → List A} {w holds : ℕ → ℕ} (L : L
   none-empty = sym (L.lengths []) ∙ ap length L.empty
 
   -- what is left of the room behind n codes
-  pub holds-rest : (n k : ℕ) → w n ≤ k → holds (k - w n) ≡ holds k - n
-  holds-rest n k h =
+  pub holds-rest : {holds : ℕ → ℕ} → Rooms w holds → (n k : ℕ) → w n ≤ k → holds (k - w n) ≡ holds k - n
+  holds-rest {holds} H n k h =
       let x = holds (k - w n) in
       let y = holds k - n in
-      let l : n ≤ holds k = L.most n k h in
+      let l : n ≤ holds k = H.most n k h in
       let e : n + y ≡ holds k = omega arith in
-      let u : n + x ≤ holds k = L.most (n + x) k (omega (arith, L.adds n x, L.fits x (k - w n) (omega arith))) in
-      let v : w (n + y) ≤ k = L.fits (n + y) k (omega arith) in
-      let t : y ≤ x = L.most y (k - w n) (omega (arith, L.adds n y)) in
+      let u : n + x ≤ holds k = H.most (n + x) k (omega (arith, L.adds n x, H.fits x (k - w n) (omega arith))) in
+      let v : w (n + y) ≤ k = H.fits (n + y) k (omega arith) in
+      let t : y ≤ x = H.most y (k - w n) (omega (arith, L.adds n y)) in
       omega arith
 
   -- codes that are put at the front

@@ -15,12 +15,15 @@ pub record Converts (F : Form) (m : Flags) (s codes : List ℕ) (k : ℕ) : Type
 abbrev pub as_is : List ℕ → List ℕ
 as_is l = l
 
--- `lay` gives the cells that codes are laid into: n codes take w n cells, and k cells hold `holds k` codes at most
-pub record Layout {A : Type 0} (lay : List ℕ → List A) (w holds : ℕ → ℕ) : Type 0 where
+-- `lay` gives the cells that codes are laid into: n codes take w n cells
+pub record Layout {A : Type 0} (lay : List ℕ → List A) (w : ℕ → ℕ) : Type 0 where
   pub empty : lay [] ≡ []
   pub lengths : (l : List ℕ) → length (lay l) ≡ w (length l)
   pub adds : (n i : ℕ) → w (n + i) ≡ w n + w i
   pub joins : (a b : List ℕ) → lay (a ++ b) ≡ lay a ++ lay b
+
+-- a code takes a cell or more, and k cells hold `holds k` codes at most
+pub record Rooms (w holds : ℕ → ℕ) : Type 0 where
   pub covers : (n : ℕ) → n ≤ w n
   pub fits : (n k : ℕ) → n ≤ holds k → w n ≤ k
   pub most : (n k : ℕ) → w n ≤ k → n ≤ holds k

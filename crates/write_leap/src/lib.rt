@@ -99,17 +99,19 @@ fn singles_out<C: Source, E: Fn(u32) -> bool>(codes: &[C], dst: &mut [u8], ends:
     end
 }
 
-// By fours.
+// By fours, each in a slice whose length the compiler knows: it then drops the tests of the places.
 fn blocks_out<C: Source>(codes: &[C], dst: &mut [u8]) -> usize
     ensures { Singled Ascii (C.codes codes.now) dst.old dst.new result }
 {
     let end = C::count(codes).min(dst.len());
     let mut n: usize = 0;
     while 4 <= end - n {
-        let a = C::get(codes, n);
-        let b = C::get(codes, n + 1);
-        let c = C::get(codes, n + 2);
-        let d = C::get(codes, n + 3);
+        let first = C::cells(n);
+        let four = &codes[first..first + C::cells(4)];
+        let a = C::get(four, 0);
+        let b = C::get(four, 1);
+        let c = C::get(four, 2);
+        let d = C::get(four, 3);
         if some_high(a, b, c, d) {
             break;
         }

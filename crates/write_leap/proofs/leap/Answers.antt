@@ -14,7 +14,7 @@ loop-at-preserved-then-c-lt128 g c =
     let F = rows_of c.args.form in
     let W = form_writer c.args.form in
     let first = leaping-one c.loop-at.invariant _ (omega arith) c.get-c.ensures c.low.result c.low.ensures (λ t. writes-ascii F W c.args.m _ t (omega arith)) (omega arith) in
-    leaping-run first Ascii _ _ _ (omega arith) c.rest.ensures c.run_out-k.ensures (writes-ascii F W c.args.m)
+    leaping-run first Ascii _ _ _ (omega arith) c.rest.ensures.left c.run_out-k.ensures (writes-ascii F W c.args.m)
 
 pub loop-at-preserved-then-c-lt2048 : goal.loop-at-preserved-then-c-lt2048
 loop-at-preserved-then-c-lt2048 g c =
@@ -53,4 +53,4 @@ loop-at-preserved g c =
     let first = leaping-one c.loop-at.invariant _ (omega arith) c.get-c.ensures c.low-in-loop-at.result c.low-in-loop-at.ensures
     (λ t. writes-escape F W c.args.m _ t lax.1 lax.0 (c.no_escape.ensures c.if-no_escape.false)) (omega arith)
     in
-    leaping-run first Single _ _ _ (omega arith) c.rest-in-loop-at.ensures c.escapes_out-k.ensures (λ x t. writes-single F W c.args.m x t lax.1 lax.0)
+    leaping-run first Single _ _ _ (omega arith) c.rest-in-loop-at.ensures.left c.escapes_out-k.ensures (λ x t. writes-single F W c.args.m x t lax.1 lax.0)

@@ -11,8 +11,8 @@ le-low_first x =
     rw (e1, e2) refl
 
 -- four stores are one write of four bytes
-pub returns : goal.returns
-returns c =
+pub returns-then-n-codes-clause-inside : goal.returns-then-n-codes-clause-inside
+returns-then-n-codes-clause-inside c h =
     let at : ℕ = c.args.n * 4 in
     let e1 : at + 1 ≡ suc at = omega arith in
     let e2 : at + 2 ≡ suc (suc at) = omega arith in
