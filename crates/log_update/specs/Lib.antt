@@ -1,2 +1,3 @@
 pub mod Resumption
 pub mod Refusal
+pub mod Answer

@@ -1,18 +1,21 @@
 // Building the index of a log, and updating it after an append.
 #![tactic(auto)]
 
-ghost use Rattle.std.specs.Prelude.{◌≡◌, ◌-◌, ◌*◌, ◌≤◌, length, MatchResult};
+ghost use Rattle.std.specs.Prelude.{◌≡◌, ◌-◌, ◌*◌, ◌≤◌, length};
 ghost use Rattle.numbers.specs.Number.{values_in, over};
 ghost use Rattle.log_index.specs.Update.{standing, building, updating};
 ghost use Rattle.log_update.specs.Resumption.{last_of, skip_of};
 ghost use Rattle.log_update.specs.Refusal.{number_of};
+ghost use Rattle.log_update.specs.Answer.{answer_of};
 
 use log_records::{EVERY, RECORD};
 
-// The records do not fit; or what was asked for is not there: an old length, old records, a code, a byte.
+// Why a call on a log is refused.
 #[derive(Clone, Copy, Debug, PartialEq, Eq)]
 pub enum Refusal {
+    // The records do not fit.
     NoRoom,
+    // What was asked for is not there: an old length, old records, a code, a byte.
     Outside,
 }
 
@@ -57,9 +60,7 @@ fn resume_after(index: &[u8], count: usize) -> (usize, usize)
 // The index of a log after an append: `was` is the old length, and `old` how many records the index has of the old log. Answers how many
 // it has then.
 pub fn update(log: &[u8], was: usize, index: &mut [u8], old: usize) -> Result<usize, Refusal>
-    ensures answer { MatchResult result
-        (λ n. ((updating log.now was index.old old).number ≡ 0) × ((updating log.now was index.old old).records ≡ n))
-        (λ refusal. (updating log.now was index.old old).number ≡ number_of refusal) }
+    ensures answer { result ≡ answer_of (updating log.now was index.old old) }
     ensures output { index.new ≡ over (updating log.now was index.old old).bytes index.old }
 {
     let room = index.len() / RECORD;
@@ -77,9 +78,7 @@ pub fn update(log: &[u8], was: usize, index: &mut [u8], old: usize) -> Result<us
 
 // The index of a log.
 pub fn build(log: &[u8], index: &mut [u8]) -> Result<usize, Refusal>
-    ensures answer { MatchResult result
-        (λ n. ((building log.now (length index.old)).number ≡ 0) × ((building log.now (length index.old)).records ≡ n))
-        (λ refusal. (building log.now (length index.old)).number ≡ number_of refusal) }
+    ensures answer { result ≡ answer_of (building log.now (length index.old)) }
     ensures output { index.new ≡ over (building log.now (length index.old)).bytes index.old }
 {
     update(log, 0, index, 0)

@@ -1,3 +1,4 @@
 pub mod Reason
+pub mod Words
 pub mod Request
 pub mod Lines

@@ -45,6 +45,13 @@ impl From<Reason> for u8 {
 
 // In the words of the header for C.
 impl fmt::Display for Reason {
+    ghost use Rattle.std.specs.Prelude.{Some};
+    ghost use Rattle.reason.specs.Words.{words};
+
+    ghost output = { λ reason. Some (words reason) };
+
+    ghost styled_output = { λ reason style. Some (words reason) };
+
     fn fmt<W: fmt::Write>(&self, f: &mut fmt::Formatter<W>) -> fmt::Result {
         f.write_str(match self {
             Reason::Good => "well-formed",

@@ -13,6 +13,7 @@ ghost use Rattle.utf8b_index.specs.Entry.{placed, found, covered, told, indexed,
 use log_update::Refusal;
 
 // The index of a log: 0 or 1.
+#[tactic(auto, using(log_update::proofs::Answer::building_given))]
 #[unsafe(no_mangle)]
 pub extern "C" fn utf8b_index_build(log: &[u8], index: &mut [u8], records: &mut usize) -> u32
     ensures { indexed result index.new records.new ≡ filled (building log.now (length index.old)) index.old records.old }
@@ -63,6 +64,7 @@ pub extern "C" fn utf8b_index_cover(
 }
 
 // The index of a log after an append, by its old length and its old records: 0, 1 or 15.
+#[tactic(auto, using(log_update::proofs::Answer::updating_given))]
 #[unsafe(no_mangle)]
 pub extern "C" fn utf8b_index_update(
     log: &[u8],

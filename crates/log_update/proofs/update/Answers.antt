@@ -3,6 +3,8 @@ use borrow.Rule.Slice.PartMut.{put_mid}
 use Rattle.numbers.specs.Number.{over}
 use Rattle.log_index.specs.Update.{Indexing, refused, updating}
 use Rattle.log_index.proofs.Bytes.{updating-outside}
+use Rattle.log_update.specs.Answer.{answer_of}
+use Rattle.log_update.proofs.Answer.{told_answer}
 use Rattle.log_update.proofs.Assembled.{updated-full, updated-all}
 use Rattle.log_update.proofs.update.Goals as goal
 use Rattle.log_update.proofs.update.Goals.{Joined-then-log-was, Then-not-are_few, After-lay_records-laid, then-log-was-via-then-log-was, then-log-was-via-else-log-was+then-room-old}
@@ -15,7 +17,7 @@ outside c =
     updating-outside c.args.log.now c.args.was c.args.index.now c.args.old h
 
 pub returns-then-log-was-clause-answer : goal.returns-then-log-was-clause-answer
-returns-then-log-was-clause-answer c = ap (λ (I : Indexing). I.number) (outside c)
+returns-then-log-was-clause-answer c = ap answer_of (sym (outside c))
 
 pub returns-then-log-was-clause-output : goal.returns-then-log-was-clause-output
 returns-then-log-was-clause-output c =
@@ -27,7 +29,7 @@ full c =
     c.resume_after-place.result.0 c.resume_after-place.ensures.place c.resume_after-place.result.1 c.resume_after-place.ensures.skip (sym c.are_few.ensures ∙ c.if-not-are_few.true)
 
 pub returns-then-not-are_few-clause-answer : goal.returns-then-not-are_few-clause-answer
-returns-then-not-are_few-clause-answer c = ap (λ (I : Indexing). I.number) (full c)
+returns-then-not-are_few-clause-answer c = ap answer_of (sym (full c))
 
 pub returns-then-not-are_few-clause-output : goal.returns-then-not-are_few-clause-output
 returns-then-not-are_few-clause-output c =
@@ -43,7 +45,7 @@ whole c =
     (λ i. omega (arith, c.slice_known-1.given i)) (sym c.are_few.ensures ∙ c.if-not-are_few.false) c.lay_records-laid.result c.lay_records-laid.new.out (c.lay_records-laid.ensures.answer, c.lay_records-laid.ensures.output)
 
 pub returns-clause-answer : goal.returns-clause-answer
-returns-clause-answer c = let (a, b, o) = whole (goal.at.returns-clause-answer c).After-lay_records-laid in (a, b)
+returns-clause-answer c = let (a, b, o) = whole (goal.at.returns-clause-answer c).After-lay_records-laid in told_answer (updating c.args.log.now c.args.was c.args.index.now c.args.old) _ (a, b)
 
 pub returns-clause-output : goal.returns-clause-output
 returns-clause-output c = (whole (goal.at.returns-clause-output c).After-lay_records-laid).2
