@@ -26,6 +26,7 @@ empty, and standard error says why.
 
 #[derive(Clone, Copy)]
 pub(crate) enum Command<'a> {
+    // The help is shown.
     Help,
     // Standard input is shown, with `why` also why its bytes are bad.
     ShowInput { why: bool },

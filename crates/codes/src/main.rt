@@ -16,9 +16,10 @@ use command::{Command, HELP, USAGE};
 use output::Output;
 use pieces::{Lines, Pieces};
 use refusal::{Fault, Refusal};
+use std::fmt;
+use std::fmt::Write;
 use std::fs::File;
-use std::io;
-use std::io::{Read, Write};
+use std::io::Read;
 
 // With `why` there is a line below it for each of its bad stretches.
 fn show_line<P: Print>(
@@ -26,8 +27,13 @@ fn show_line<P: Print>(
     text: &[u8],
     line: Pieces<'_>,
     why: bool,
-) -> io::Result<()> {
-    writeln!(out, "{line}")?;
+) -> fmt::Result {
+    // No formatter is set up for an empty line: there may be a million of them.
+    if line.is_empty() {
+        return out.write_str("\n");
+    }
+    out.write(line)?;
+    out.write_str("\n")?;
     if why {
         for piece in line.filter(|piece| piece.code.is_none()) {
             let place = piece.place;
@@ -38,11 +44,11 @@ fn show_line<P: Print>(
     Ok(())
 }
 
-fn show_text<P: Print>(out: &mut Output<'_, P>, text: &[u8], why: bool) -> io::Result<()> {
+fn show_text<P: Print>(out: &mut Output<'_, P>, text: &[u8], why: bool) -> fmt::Result {
     for line in Lines::new(text) {
         show_line(out, text, line, why)?;
     }
-    out.flush()
+    Ok(())
 }
 
 fn show_input<'a, R: Read>(
@@ -54,7 +60,10 @@ fn show_input<'a, R: Read>(
     let mut buffer = input::input_buffer();
     let text = input::read_all(input, &mut buffer).map_err(|fault| fault.of(name))?;
     let mut out = Output::new(rt);
-    show_text(&mut out, text, why).map_err(|error| Fault::System(error).of(b"standard output"))
+    // Where it stopped, `finish` gives the error.
+    let _ = show_text(&mut out, text, why);
+    out.finish()
+        .map_err(|error| Fault::System(error).of(b"standard output"))
 }
 
 fn run<'a>(rt: &HostRuntime, argument: &'a mut [u8]) -> Result<(), Refusal<'a>> {

@@ -1,6 +1,32 @@
 // A text in pieces: well-formed sequences and bad stretches.
 use std::fmt;
 
+const DIGITS: [u8; 16] = *b"0123456789ABCDEF";
+
+// The last hexadecimal digit of the number.
+fn digit(number: u32) -> u8 {
+    DIGITS[(number % 16) as usize]
+}
+
+// Writes text that was made as bytes. In one piece it costs less than a format of several.
+fn write_text<W: fmt::Write>(f: &mut fmt::Formatter<W>, bytes: &[u8]) -> fmt::Result {
+    match str::from_utf8(bytes) {
+        Ok(text) => f.write_str(text),
+        Err(_) => Err(fmt::Error),
+    }
+}
+
+// A byte of a bad stretch.
+#[derive(Clone, Copy)]
+struct BadByte(u8);
+
+impl fmt::Display for BadByte {
+    fn fmt<W: fmt::Write>(&self, f: &mut fmt::Formatter<W>) -> fmt::Result {
+        let byte = u32::from(self.0);
+        write_text(f, &[b'<', digit(byte / 0x10), digit(byte), b'>'])
+    }
+}
+
 // Some bytes, from a place of the text on.
 #[derive(Clone, Copy)]
 pub(crate) struct Piece<'a> {
@@ -12,17 +38,21 @@ pub(crate) struct Piece<'a> {
 
 impl fmt::Display for Piece<'_> {
     fn fmt<W: fmt::Write>(&self, f: &mut fmt::Formatter<W>) -> fmt::Result {
-        if let Some(code) = self.code {
-            return write!(f, "U+{code:04X}");
+        match self.code {
+            Some(code) if code <= 0xFFFF => write_text(
+                f,
+                &[
+                    b'U',
+                    b'+',
+                    digit(code / 0x1000),
+                    digit(code / 0x100),
+                    digit(code / 0x10),
+                    digit(code),
+                ],
+            ),
+            Some(code) => write!(f, "U+{code:X}"),
+            None => f.write_joined(self.bytes.iter().copied().map(BadByte), " "),
         }
-        let mut bytes = self.bytes.iter();
-        if let Some(first) = bytes.next() {
-            write!(f, "<{first:02X}>")?;
-        }
-        for byte in bytes {
-            write!(f, " <{byte:02X}>")?;
-        }
-        Ok(())
     }
 }
 
@@ -32,6 +62,12 @@ pub(crate) struct Pieces<'a> {
     text: &'a [u8],
     place: usize,
     end: usize,
+}
+
+impl Pieces<'_> {
+    pub(crate) fn is_empty(&self) -> bool {
+        self.end <= self.place
+    }
 }
 
 impl<'a> Iterator for Pieces<'a> {
@@ -62,14 +98,7 @@ impl<'a> Iterator for Pieces<'a> {
 
 impl fmt::Display for Pieces<'_> {
     fn fmt<W: fmt::Write>(&self, f: &mut fmt::Formatter<W>) -> fmt::Result {
-        let mut pieces = *self;
-        if let Some(first) = pieces.next() {
-            write!(f, "{first}")?;
-        }
-        for piece in pieces {
-            write!(f, " {piece}")?;
-        }
-        Ok(())
+        f.write_joined(*self, " ")
     }
 }
 

@@ -5,23 +5,28 @@ use crate::output::Output;
 use arrayvec::ArrayString;
 use std::env::FillError;
 use std::error::Error;
-use std::fmt::Write as _;
-use std::io::Write;
+use std::fmt::Write;
 use std::{fmt, io};
 
 #[derive(Debug, Drop)]
 pub(crate) enum Fault {
-    // The command line is none of the synopsis.
+    // The command line is none of the synopsis: more arguments than it has.
     TooMany,
+    // The name of a file that has no characters.
     EmptyName,
+    // An option that is neither `--why` nor `--help`.
     UnknownOption,
-    // The name is none that a file can have here.
+    // A name of more bytes than the system takes.
     NameTooLong,
+    // An argument that was there and is not there any more.
     NoName,
+    // A name that is not UTF-8.
     NotText,
-    // The input is not all there.
+    // The input is not all there: a read failed in its midst.
     ReadFailed,
+    // More input than there is memory for.
     TooLong,
+    // What the system says of a file, a read or a write.
     System(io::Error),
 }
 
@@ -90,17 +95,19 @@ pub(crate) struct Refusal<'a> {
 impl Refusal<'_> {
     // Nothing is told of a message that could not be written.
     pub(crate) fn tell(&self, to: &impl Print) {
-        let _ = self.write_to(&mut Output::new(to));
+        let mut out = Output::new(to);
+        let _ = self.write_to(&mut out);
+        let _ = out.finish();
     }
 
-    fn write_to<P: Print>(&self, out: &mut Output<'_, P>) -> io::Result<()> {
+    fn write_to<P: Print>(&self, out: &mut Output<'_, P>) -> fmt::Result {
         let fault = &self.fault;
-        out.write_all(b"codes: ")?;
-        out.write_all(self.what)?;
+        out.write_str("codes: ")?;
+        out.write_bytes(self.what)?;
         writeln!(out, ": {fault}")?;
         if fault.is_misuse() {
-            out.write_all(USAGE.as_bytes())?;
+            out.write_str(USAGE)?;
         }
-        out.flush()
+        Ok(())
     }
 }

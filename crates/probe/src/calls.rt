@@ -62,6 +62,8 @@ fn read_in(coding: Coding, bytes: &[u8], codes: &mut [u32], flags: u32) -> Decod
     }
 }
 
+// This, `rest`, `write` and `step` have large buffers. Inlined, they would have every line take their stack, a remark too.
+#[inline(never)]
 fn read(out: &mut Output<'_>, coding: Coding, given: Given<HexBytes<'_>>) -> fmt::Result {
     let mut buffer = filled(FILLED);
     let mut codes = filled(FILLED_CODE);
@@ -72,6 +74,7 @@ fn read(out: &mut Output<'_>, coding: Coding, given: Given<HexBytes<'_>>) -> fmt
     tell_codes(out, &codes, decoded.produced, room, decoded.subpart)
 }
 
+#[inline(never)]
 fn rest(out: &mut Output<'_>, given: Given<HexBytes<'_>>) -> fmt::Result {
     let mut buffer = filled(FILLED);
     let mut codes = filled(FILLED_CODE);
@@ -100,6 +103,7 @@ fn write_in(coding: Coding, codes: &[u32], bytes: &mut [u8], flags: u32) -> Enco
     }
 }
 
+#[inline(never)]
 fn write(out: &mut Output<'_>, coding: Coding, given: Given<HexCodes<'_>>) -> fmt::Result {
     let mut buffer = filled(FILLED_CODE);
     let mut bytes = filled(FILLED);
@@ -182,6 +186,7 @@ impl fmt::Display for Told {
     }
 }
 
+#[inline(never)]
 fn step(out: &mut Output<'_>, width: Width, state: State, bytes: HexBytes<'_>) -> fmt::Result {
     let mut buffer = filled(FILLED);
     let length = bytes.put_into(&mut buffer);

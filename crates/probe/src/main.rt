@@ -52,11 +52,11 @@ impl Line {
     }
 
     fn is_empty(&self) -> bool {
-        self.kept.is_empty()
+        self.kept.is_empty() && !self.is_too_long
     }
 
-    fn push(&mut self, byte: u8) {
-        if self.kept.try_push(byte).is_err() {
+    fn extend(&mut self, bytes: &[u8]) {
+        if self.kept.try_extend_from_slice(bytes).is_err() {
             self.is_too_long = true;
         }
     }
@@ -87,12 +87,14 @@ fn answer(rt: &HostRuntime, line: &mut Line) -> Result<(), Stopped> {
 }
 
 fn feed(rt: &HostRuntime, chunk: &[u8], line: &mut Line) -> Result<(), Stopped> {
-    for byte in chunk {
-        if *byte == b'\n' {
-            answer(rt, line)?;
-        } else {
-            line.push(*byte);
-        }
+    let mut parts = chunk.split(|byte| *byte == b'\n');
+    // The first is the rest of a line that has begun, and each line feed ends one.
+    if let Some(first) = parts.next() {
+        line.extend(first);
+    }
+    for part in parts {
+        answer(rt, line)?;
+        line.extend(part);
     }
     Ok(())
 }

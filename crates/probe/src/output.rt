@@ -35,7 +35,7 @@ impl<'a> Output<'a> {
     }
 
     fn written(&self, bytes: &[u8]) -> Result<(), Stopped> {
-        match self.rt.write_all(bytes) {
+        match self.rt.stdout().write_all(bytes) {
             Ok(()) => Ok(()),
             Err(error) => {
                 fail(self.rt, "standard output", error);

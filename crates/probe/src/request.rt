@@ -14,8 +14,11 @@ pub(crate) const LONGEST: usize = 65536;
 // The units that a step makes of bytes.
 #[derive(Clone, Copy)]
 pub(crate) enum Width {
+    // 8-bit units.
     Units8,
+    // 16-bit units.
     Units16,
+    // Wide codes.
     Codes,
     // 16-bit units of CESU-8.
     Cesu16,
@@ -23,28 +26,46 @@ pub(crate) enum Width {
 
 #[derive(Clone, Copy)]
 pub(crate) enum Command {
+    // The reader.
     Read(Coding),
+    // The reader's companion.
     Rest,
+    // The writer.
     Write(Coding),
+    // A reading step.
     Step(Width),
+    // The step back.
     Back,
+    // The reset of a state.
     Reset,
+    // The question whether a state is the starting one.
     Start,
 }
 
 // Why a line is refused.
 #[derive(Clone, Copy)]
 pub(crate) enum Refusal {
+    // It has no words.
     Empty,
+    // Its first word is no command.
     UnknownCommand,
+    // A word that the command takes is not there.
     TooFewWords,
+    // There are words behind those that the command takes.
     TooManyWords,
+    // A word that is no flag number,
     Flags,
+    // no room,
     Room,
+    // no bytes,
     Bytes,
+    // no codes,
     Codes,
+    // no record,
     Record,
+    // or no 16-bit unit.
     Unit,
+    // It is longer than is kept of it.
     TooLong,
 }
 
@@ -312,12 +333,19 @@ pub(crate) struct Given<T> {
 pub(crate) enum Request<'a> {
     // Its own answer.
     Remark(&'a [u8]),
+    // What the reader is given in a coding,
     Read(Coding, Given<HexBytes<'a>>),
+    // and its companion.
     Rest(Given<HexBytes<'a>>),
+    // What the writer is given in a coding.
     Write(Coding, Given<HexCodes<'a>>),
+    // What a reading step is given.
     Step(Width, State, HexBytes<'a>),
+    // What the step back is given.
     Back(State, u16),
+    // The state that is reset.
     Reset(State),
+    // The state that is asked about.
     Start(State),
 }
 

@@ -1,8 +1,6 @@
 // How answers are written.
-use arrayvec::ArrayString;
 use state::Record;
 use std::fmt;
-use std::fmt::Write;
 
 // A value that may not be there.
 #[derive(Drop)]
@@ -42,17 +40,23 @@ impl fmt::Display for Codes<'_> {
 pub(crate) struct Bytes<'a>(pub(crate) &'a [u8]);
 
 impl fmt::Display for Bytes<'_> {
-    // Standard output has no buffer: 32 bytes are one write.
+    // Standard output has no buffer: 32 bytes are one write. A format for each of them would take longer.
     fn fmt<W: fmt::Write>(&self, f: &mut fmt::Formatter<W>) -> fmt::Result {
         if self.0.is_empty() {
             return f.write_str("-");
         }
         for part in self.0.chunks(32) {
-            let mut digits: ArrayString<64> = ArrayString::new();
-            for byte in part {
-                write!(digits, "{byte:02X}")?;
+            let mut room = [0u8; 64];
+            let len = room.len().min(2 * part.len());
+            let digits = &mut room[..len];
+            let _ = hex::encode_to_slice(part, digits);
+            for digit in digits.iter_mut() {
+                digit.make_ascii_uppercase();
             }
-            f.write_str(digits.as_str())?;
+            match str::from_utf8(digits) {
+                Ok(text) => f.write_str(text)?,
+                Err(_) => return Err(fmt::Error),
+            }
         }
         Ok(())
     }
@@ -85,13 +89,21 @@ impl fmt::Display for Held {
 // What a step answers.
 #[derive(Clone, Copy)]
 pub(crate) enum Name {
+    // The state is refused.
     Refused,
+    // A pending unit came out.
     Continuation,
+    // The input ends within a sequence.
     Incomplete,
+    // The bytes, or the unit, are bad.
     Bad,
+    // The code 0 came out.
     Null,
+    // The first unit of a code came out.
     Unit,
+    // The unit is held.
     Held,
+    // The unit gave bytes.
     Bytes,
 }
 
