@@ -24,27 +24,37 @@ pub unnumbered : (n : ℕ) (r : Result Kind UnknownKind) → Numbered n r → re
 unnumbered n (Ok j) h e = cc
 unnumbered n (Err x) h e = h.1
 
+-- ---- by a test of its own
+
+kind_by : (t : Bool) (m : Meaning) → kind_of (valid_if t m) ≡ cond t (kind_of (valid m)) None
+kind_by true m = refl
+kind_by false m = refl
+
+-- a result that is the kind of m where the test t holds
+pub by_test : (s : Sense) (r : Option Kind) (t u : Bool) (m : Meaning) → r ≡ cond t (kind_of (valid m)) None → t ≡ u → s ≡ valid_if u m → r ≡ kind_of s
+by_test s r t u m e f g = e ∙ ap (λ (v : Bool). cond v (kind_of (valid m)) None) f ∙ sym (ap kind_of g ∙ kind_by u m)
+
 -- ---- the test of a kind
 
-kind_if : (t : Bool) (m : Meaning) (k : Kind) → kind_of (valid m) ≡ Some k → then_some t k ≡ kind_of (valid_if t m)
+kind_if : (t : Bool) (m : Meaning) (k : Kind) → kind_of (valid m) ≡ Some k → then_some t k ≡ cond t (kind_of (valid m)) None
 kind_if true m k e = sym e
 kind_if false m k e = refl
 
 module _ (F : Form) (k : Kind) (d : List ℕ) (t : Bool) where
   pub starting_by : k ≡ Starting → t ≡ eqb (length d) 0 → then_some t k ≡ kind_of (meaning F (number_of k) d)
-  starting_by e q = rw (e, is_starting F 0 d refl, q) (kind_if _ starting Starting refl)
+  starting_by e q = rw e (by_test (meaning F 0 d) (then_some t Starting) t _ starting (kind_if t starting Starting refl) q (is_starting F 0 d refl))
 
   pub partial_by : k ≡ Partial → t ≡ (ltb 0 (length d) && part? (scan F d)) → then_some t k ≡ kind_of (meaning F (number_of k) d)
-  partial_by e q = rw (e, is_held F 1 d refl, q) (kind_if _ (held d) Partial refl)
+  partial_by e q = rw e (by_test (meaning F 1 d) (then_some t Partial) t _ (held d) (kind_if t (held d) Partial refl) q (is_held F 1 d refl))
 
   pub trail_by : k ≡ Trail → t ≡ (in? (1 to 3) (length d) && each tail d) → then_some t k ≡ kind_of (meaning F (number_of k) d)
-  trail_by e q = rw (e, is-trail F 2 d refl, q) (kind_if _ (trail d) Trail refl)
+  trail_by e q = rw e (by_test (meaning F 2 d) (then_some t Trail) t _ (trail d) (kind_if t (trail d) Trail refl) q (is-trail F 2 d refl))
 
   pub low_by : k ≡ Low → t ≡ (eqb (length d) 2 && in? (0xDC00 to 0xDFFF) (unit d)) → then_some t k ≡ kind_of (meaning F (number_of k) d)
-  low_by e q = rw (e, is_low F 3 d refl, q) (kind_if _ (low (unit d)) Low refl)
+  low_by e q = rw e (by_test (meaning F 3 d) (then_some t Low) t _ (low (unit d)) (kind_if t (low (unit d)) Low refl) q (is_low F 3 d refl))
 
   pub high_by : k ≡ High → t ≡ (eqb (length d) 2 && in? (0xD800 to 0xDBFF) (unit d)) → then_some t k ≡ kind_of (meaning F (number_of k) d)
-  high_by e q = rw (e, is-high F 4 d refl, q) (kind_if _ (high (unit d)) High refl)
+  high_by e q = rw e (by_test (meaning F 4 d) (then_some t High) t _ (high (unit d)) (kind_if t (high (unit d)) High refl) q (is-high F 4 d refl))
 
 -- ---- the layout
 
@@ -72,13 +82,3 @@ module _ (F : Form) (n : ℕ) (places : List ℕ) where
 
     pub unclear : false ≡ each (0 to 0) unused → None ≡ kind_of (sense F k n places)
     unclear c = rw (sense-unclear F k n places within (clear_places false c)) refl
-
--- ---- by a test of its own
-
-kind_by : (t : Bool) (m : Meaning) → kind_of (valid_if t m) ≡ cond t (kind_of (valid m)) None
-kind_by true m = refl
-kind_by false m = refl
-
--- a result that is the kind of m where the test t holds
-pub by_test : (s : Sense) (r : Option Kind) (t u : Bool) (m : Meaning) → r ≡ cond t (kind_of (valid m)) None → t ≡ u → s ≡ valid_if u m → r ≡ kind_of s
-by_test s r t u m e f g = e ∙ ap (λ (v : Bool). cond v (kind_of (valid m)) None) f ∙ sym (ap kind_of g ∙ kind_by u m)

@@ -9,7 +9,7 @@ use Rattle.form.specs.Table.{plain}
 use Rattle.form.specs.Text.{Item, span, items, places}
 use Rattle.bounds.specs.Cover.{place}
 use Rattle.item.specs.Leaf.{leaf_of, leaf_span}
-use Rattle.item.proofs.Here.{here_span}
+use Rattle.item.proofs.Here.{here_span, step_part}
 use Rattle.std.specs.Iterator.{YieldsFirst}
 use Rattle.std.proofs.lemmas.Iterator.{YieldsList}
 use Rattle.std.proofs.lemmas.Iterator.Consumers.{YieldsList-from_shown}
@@ -28,7 +28,7 @@ unfolding extents_from
 next_part s at n h e =
     let (r, (H, z)) = here_span s at n h e in
     let tail : ℕ → List Extent = λ k. record { start = at; end = at + k } ∷ extents (at + k) (items plain 0 (drop (at + r.span) s)) in
-    rw z (record { within = H.within; extents_are = ap (extents at) H.items_are ∙ ap tail (sym H.span_is) })
+    record { within = (step_part s at n h e).within; extents_are = rw z (ap (extents at) H.items_are ∙ ap tail (sym H.span_is)) }
 
 pub extents-none : (s : List ℕ) (at : ℕ) → length s ≤ at → extents_from s at ≡ []
 unfolding extents_from
