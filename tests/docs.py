@@ -8,7 +8,8 @@ docs.py crates            a table of the crates: what each uses, and what it is
 What it checks: the header, README.md and the man pages have the same flags, answers and prototypes. Every path that
 a document names exists. docs/PROMISES.md has a section for each crate that has public functions or definitions, and
 every public function; docs/DESIGN.md has every crate; both name nothing that is not there. Each edit says in its first
-line what it is, and can be made. Each public function has two edits by its name.
+line what it is, and can be made. Each public function has two edits by its name. The methods of a public trait, and what
+an impl promises by a ghost member, as From does, count as public functions.
 """
 import functools
 import pathlib
@@ -18,7 +19,7 @@ import sys
 TOP = pathlib.Path(__file__).resolve().parent.parent
 QUOTED = re.compile(r"`([^`\n]+)`")
 # Words in backquotes that the crates do not define: of the toolchain, of Rattle and of its logic.
-OTHER = {"rt", "requires", "ensures", "tt", "++", "u8", "u32", "u8::from"}
+OTHER = {"rt", "requires", "ensures", "tt", "++", "u8", "u32", "u8::from", "u32::from", "impl", "From", "TryFrom", "Display", "Ok"}
 # What a line of Rattle defines, and what a line of definitions or proofs does: there also the fields and constructors.
 RATTLE = re.compile(r'^\s*(?:pub )?(?:extern "C" )?(?:fn|struct|enum|trait|const) (\w+)', re.M)
 VARIANT = re.compile(r"^    ([A-Z]\w*)(?: = \d+|\(.*\))?,$", re.M)
@@ -26,7 +27,10 @@ ANTT = re.compile(
     r"^(?:  )?(?:  (?=pub ))?(?:(?:abbrev|unfoldable|pub|data|record) )*([^-\s(){}:=][^(){}:=\n]*?)(?: [({].*)? :", re.M
 )
 PUBLIC = re.compile(r'^\s*pub (?:extern "C" )?fn (\w+)')
-TRAIT = re.compile(r"^pub trait ", re.M)
+TRAIT = re.compile(r"^pub trait (\w+)(?:.*\n)*?}", re.M)
+# The function that a ghost member of an impl makes a promise of.
+PROMISED = {"from_gives": "from", "try_from_gives": "try_from", "next_gives": "next", "output": "fmt"}
+IMPL = re.compile(r"^impl(?:<[^>\n]*>)? [\w:]+(?:<(\w+)>)? for (\w+)(?:.* {}$|(?:.*\n)*?})", re.M)
 checked = 0
 wrong = []
 
@@ -95,6 +99,24 @@ def public_functions(crate):
         for line in text(path).splitlines():
             owner = next(iter(re.findall(r"^impl(?:<[^>]*>)? (\w+)", line)), "" if line.startswith("}") else owner)
             found += [f"{owner}::{name}" if owner else name for name in PUBLIC.findall(line)]
+    return found
+
+
+@functools.cache
+def promised_functions(crate):
+    """The methods of public traits, and those that an impl promises by a ghost member: TRAIT::NAME or TYPE::NAME, each with the types whose
+    names an edit of it may begin with."""
+    found = {}
+    for path in code(crate):
+        impls = list(IMPL.finditer(text(path)))
+        for trait in TRAIT.finditer(text(path)):
+            types = {impl.group(2) for impl in impls if impl.group().partition("{")[0].count(trait.group(1))}
+            for name in re.findall(r"^    fn (\w+)", trait.group(), re.M):
+                found[f"{trait.group(1)}::{name}"] = {trait.group(1), *types}
+        for impl in impls:
+            for member in re.findall(r"^    ghost (\w+) = ", impl.group(), re.M):
+                if member in PROMISED:
+                    found[f"{impl.group(2)}::{PROMISED[member]}"] = {impl.group(2), impl.group(1) or impl.group(2)}
     return found
 
 
@@ -230,9 +252,8 @@ def check_promises():
     parts = re.split(r"^## (?:`(\w+)`)?.*$", text(document), flags=re.M)
     sections = dict(zip(parts[1::2], parts[2::2]))
     for crate in crates():
-        functions = set(public_functions(crate))
-        traits = any(TRAIT.search(text(path)) for path in code(crate))
-        expect((crate in sections) == bool(functions or definitions(crate) or traits), f"{document}: the section of {crate}")
+        functions = {*public_functions(crate), *promised_functions(crate)}
+        expect((crate in sections) == bool(functions or definitions(crate)), f"{document}: the section of {crate}")
         told = set(re.findall(r"^- \*\*`([\w:]+)`", sections.get(crate, ""), re.M))
         expect(told == functions, f"{document}: the functions of {crate}: {sorted(told ^ functions)}")
 
@@ -288,6 +309,11 @@ def check_edits():
             start = function.replace("::", "-") + "-"
             count = sum(edit.name.startswith(start) for edit in edits(crate))
             expect(count >= 2, f"crates/{crate}: {function} has {count} of 2 edits ({start}*.edit)")
+        for function, types in promised_functions(crate).items():
+            name = function.partition("::")[2]
+            start = re.compile(rf"(?:(?:{'|'.join(sorted(types))})-)?{name}\d*-")
+            count = sum(bool(start.match(edit.name)) for edit in edits(crate))
+            expect(count >= 2, f"crates/{crate}: {function} has {count} of 2 edits ({name}-*.edit)")
 
 
 def check():
